@@ -1,0 +1,4 @@
+pub mod Pick
+pub mod Refusals
+pub mod Stamps
+pub mod Units

@@ -1,0 +1,4 @@
+// What every floor uses: refusals with the paper's numbers, the two units of voltage, and the time between two stamps.
+pub mod refusal;
+pub mod stamp;
+pub mod units;
