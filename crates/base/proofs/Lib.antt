@@ -1,3 +1,4 @@
 pub mod Products
 pub mod Tests
 pub mod Table
+pub mod Packs
