@@ -1,0 +1,3 @@
+-- The crate's laws.
+pub mod Stacks
+pub mod Bytes

@@ -1,0 +1,6 @@
+-- The crate's laws.
+pub mod Small
+pub mod ReadBack
+pub mod Order
+pub mod Leaves
+pub mod Keeps

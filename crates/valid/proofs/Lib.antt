@@ -1,0 +1,4 @@
+-- The crate's laws.
+pub mod Wholes
+pub mod Bounds
+pub mod Begins

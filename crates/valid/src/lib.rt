@@ -1,0 +1,2 @@
+// What each part of the state may hold.
+pub mod holds;
