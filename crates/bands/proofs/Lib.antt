@@ -1,0 +1,3 @@
+-- The laws of the crate.
+pub mod Shares
+pub mod Firsts

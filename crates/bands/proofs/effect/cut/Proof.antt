@@ -1,0 +1,13 @@
+-- `cut`: the table's entry in warm alone.
+use Rattle.bands.specs.Effect.{cutOf}
+use borrow.Author.Needs.{needs}
+use Rattle.bands.proofs.effect.cut.Statement.{statement}
+use Rattle.bands.proofs.effect.cut.Tie as tie
+
+returns : tie.Need-returns
+unfolding cutOf
+returns c = simp (c .choose-cell .ensures, c .before .is-warm .ensures)
+
+pub cut-spec : {M : Type 1} → statement M
+cut-spec =
+    tie.close (tie.spec (λ c. search needs) (λ c κs. tt) (λ c. search needs) (λ c. search needs) (λ c κs. tt) returns)

@@ -1,0 +1,78 @@
+// What a band does: it suspends, leaves a share of the current, or cuts the voltage.
+ghost use mathlib.Core.Path.{_≡_};
+ghost use Rattle.bands.specs.Effect.{suspendedIn, suspendsOf, shareIn, shareOf, isWarm, cutOf};
+use base::units;
+use base::units::CellMv;
+use parts::band::Band;
+use parts::registers::Registers;
+
+const COOL_SHARE: [u32; 4] = [0, 20, 40, 100];
+
+const WARM_SHARE: [u32; 2] = [40, 100];
+
+const CUT: [u32; 4] = [0, 250, 100, 0];
+
+fn suspended_in(band: Band, stopscool: bool, stopswarm: bool) -> bool
+    ensures { λ r. ⌜ r ≡ suspendedIn band stopscool stopswarm ⌝ }
+{
+    match band {
+        Band::Normal => false,
+        Band::Cold => true,
+        Band::Cool => stopscool,
+        Band::Warm => stopswarm,
+        Band::Hot => true,
+    }
+}
+
+// Whether a band suspends the charge.
+pub fn suspends(registers: Registers, band: Band) -> bool
+    ensures { λ r. ⌜ r ≡ suspendsOf registers band ⌝ }
+{
+    suspended_in(
+        band,
+        registers.r19 / 4 % 4 == 0,
+        registers.r19 / 32 % 4 == 0,
+    )
+}
+
+fn share_in(band: Band, cool: u32, warm: u32) -> u32
+    ensures { λ r. ⌜ r ≡ shareIn band cool warm ⌝ }
+{
+    match band {
+        Band::Normal => 100,
+        Band::Cold => 100,
+        Band::Cool => cool,
+        Band::Warm => warm,
+        Band::Hot => 100,
+    }
+}
+
+// The percentage of the charge current that a band leaves.
+pub fn share(registers: Registers, band: Band) -> u32
+    ensures { λ r. ⌜ r ≡ shareOf registers band ⌝ }
+{
+    let i = (registers.r19 / 4 % 4) as usize;
+    let j = (registers.r19 / 16 % 2) as usize;
+    share_in(band, COOL_SHARE[i], WARM_SHARE[j])
+}
+
+fn is_warm(band: Band) -> bool
+    ensures { λ r. ⌜ r ≡ isWarm band ⌝ }
+{
+    match band {
+        Band::Normal => false,
+        Band::Cold => false,
+        Band::Cool => false,
+        Band::Warm => true,
+        Band::Hot => false,
+    }
+}
+
+// What a band takes off each cell's voltage.
+pub fn cut(registers: Registers, band: Band) -> CellMv
+    ensures { λ r. ⌜ r ≡ cutOf registers band ⌝ }
+{
+    let i = (registers.r19 / 32 % 4) as usize;
+    let warm = is_warm(band);
+    units::choose_cell(warm, CellMv(CUT[i]), CellMv(0))
+}

@@ -1,0 +1,73 @@
+// The temperature band of a thermistor's value, by registers 0x18 and 0x19.
+ghost use mathlib.Core.Path.{_≡_};
+ghost use Rattle.bands.specs.Thresholds.{th1Of, th2Of, th3Of, th5Of, firstBand, bandOf};
+use parts::band::Band;
+use parts::registers::Registers;
+
+const TH1: [u32; 4] = [77150, 75320, 73300, 70900];
+
+const TH2: [u32; 4] = [70900, 68250, 65350, 62250];
+
+const TH3: [u32; 4] = [48400, 44750, 41200, 37700];
+
+const TH5: [u32; 4] = [41200, 37700, 34375, 31250];
+
+fn th1(registers: Registers) -> u32
+    ensures { λ r. ⌜ r ≡ th1Of registers ⌝ }
+{
+    let i = (registers.r18 % 4) as usize;
+    TH1[i]
+}
+
+fn th2(registers: Registers) -> u32
+    ensures { λ r. ⌜ r ≡ th2Of registers ⌝ }
+{
+    let i = (registers.r18 / 4 % 4) as usize;
+    TH2[i]
+}
+
+fn th3(registers: Registers) -> u32
+    ensures { λ r. ⌜ r ≡ th3Of registers ⌝ }
+{
+    let i = (registers.r18 / 16 % 4) as usize;
+    TH3[i]
+}
+
+fn th5(registers: Registers) -> u32
+    ensures { λ r. ⌜ r ≡ th5Of registers ⌝ }
+{
+    let i = (registers.r18 / 64 % 4) as usize;
+    TH5[i]
+}
+
+// The judged order of bands.
+fn first_band(off: bool, cold: bool, hot: bool, cool: bool, warm: bool) -> Band
+    ensures { λ r. ⌜ r ≡ firstBand off cold hot cool warm ⌝ }
+{
+    if off {
+        Band::Normal
+    } else if cold {
+        Band::Cold
+    } else if hot {
+        Band::Hot
+    } else if cool {
+        Band::Cool
+    } else if warm {
+        Band::Warm
+    } else {
+        Band::Normal
+    }
+}
+
+// The band of one TS value.
+pub fn band_at(registers: Registers, ts: u32) -> Band
+    ensures { λ r. ⌜ r ≡ bandOf registers ts ⌝ }
+{
+    let off = registers.r19 % 2 == 0;
+    let jeita = registers.r19 / 2 % 2 == 1;
+    let cold = th1(registers) <= ts;
+    let hot = ts <= th5(registers);
+    let cool = th2(registers) <= ts;
+    let warm = ts <= th3(registers);
+    first_band(off, cold, hot, jeita & cool, jeita & warm)
+}

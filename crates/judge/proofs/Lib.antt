@@ -1,0 +1,4 @@
+-- The laws of the crate.
+pub mod Alone
+pub mod Below
+pub mod Once

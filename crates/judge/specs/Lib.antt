@@ -1,0 +1,4 @@
+-- The definitions of the crate.
+pub mod Gather
+pub mod Settle
+pub mod Theorems

@@ -1,0 +1,4 @@
+-- The definitions of the crate.
+pub mod Clamps
+pub mod Comparators
+pub mod Voltage

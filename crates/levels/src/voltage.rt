@@ -1,0 +1,48 @@
+// The charge voltage, and where VBAT stands to it and to the recharge point.
+ghost use mathlib.Core.Path.{_≡_};
+ghost use Rattle.levels.specs.Voltage.{chargeVoltageOf, taperOf, belowRecharge};
+use crate::clamps;
+use crate::comparators;
+use bands::effect;
+use base::units;
+use base::units::PackMv;
+use parts::band::Band;
+use parts::profile::Profile;
+use parts::registers::Registers;
+use parts::sample::Sample;
+use parts::settings::Settings;
+
+const RECHARGE: [u32; 4] = [927, 941, 955, 970];
+
+// The voltage that the pack is charged to in a band.
+pub fn charge_voltage(
+    profile: Profile,
+    settings: Settings,
+    registers: Registers,
+    band: Band,
+) -> PackMv
+    ensures { λ r. ⌜ r ≡ chargeVoltageOf profile settings registers band ⌝ }
+{
+    let cells = registers.cells;
+    let base = clamps::base(profile, settings, registers);
+    let each = effect::cut(registers, band);
+    let all = units::in_pack(each, cells);
+    units::less(base, all)
+}
+
+// Whether VBAT is so near the charge voltage that the current tapers.
+pub fn tapers(charge: PackMv, sample: Sample) -> bool
+    ensures { λ r. ⌜ r ≡ taperOf charge sample ⌝ }
+{
+    let now = comparators::pack(sample);
+    units::is_within(now, charge, 10)
+}
+
+// Whether VBAT is below the recharge point.
+pub fn below_recharge(settings: Settings, whole: PackMv, sample: Sample) -> bool
+    ensures { λ r. ⌜ r ≡ belowRecharge settings whole sample ⌝ }
+{
+    let i = (settings.vrechg % 4) as usize;
+    let now = comparators::pack(sample);
+    units::is_below_share(now, whole, RECHARGE[i])
+}

@@ -1,0 +1,4 @@
+-- The definitions of the crate.
+pub mod Order
+pub mod Cycles
+pub mod After

@@ -1,0 +1,20 @@
+-- 01, "Settling, in order": "STAT: low in 1-4, blinking in 6-7, else high; high if disabled."
+use Rattle.base.specs.Pick.{pick}
+use Rattle.parts.specs.declared.phase.Phase.{Phase}
+use Rattle.parts.specs.declared.phase.Phase.the-variants.{Idle, Trickle, Precharge, Fast, Taper, Done, Suspended, Fault}
+use Rattle.parts.specs.declared.state.State.{State}
+use Rattle.shown.specs.declared.answer.Stat.{Stat}
+use Rattle.shown.specs.declared.answer.Stat.the-variants.{Low, Blinking, High}
+
+abbrev pub statIn : Phase → Stat
+statIn Idle = High
+statIn Trickle = Low
+statIn Precharge = Low
+statIn Fast = Low
+statIn Taper = Low
+statIn Done = High
+statIn Suspended = Blinking
+statIn Fault = Blinking
+
+unfoldable pub statOf : State → Stat
+statOf s = pick (s .settings .disstat) High (statIn (s .phase))

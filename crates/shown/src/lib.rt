@@ -1,0 +1,4 @@
+// What the model shows: its report, and the STAT pin.
+pub mod answer;
+pub mod report;
+pub mod stat;
