@@ -1,0 +1,3 @@
+-- The definitions of the crate `edges`.
+pub mod Expiry
+pub mod Edges

@@ -1,0 +1,17 @@
+-- `power_on` meets its contract.
+use Rattle.moves.specs.Plain.{poweredOf, powerOnOf}
+use Rattle.moves.proofs.plain.power_on.Statement.{statement}
+use Rattle.moves.proofs.plain.power_on.Tie as tie
+
+returns : tie.Need-returns
+unfolding powerOnOf
+returns c = simp (← c .before .profile-ok .ensures, c .if1 .taken)
+
+returns-2 : tie.Need-returns-2
+unfolding powerOnOf poweredOf
+returns-2 c = simp (c .none .ensures, c .before .flagged .ensures, c .before .before .powered .ensures, c .before .before .before .settle .ensures, c .before .before .before .before .start .ensures, ← c .before .before .before .before .before .before .profile-ok .ensures, c .before .before .before .before .before .if1 .left)
+
+pub power-on-spec : {M : Type 1} → statement M
+power-on-spec =
+    tie.close
+    (tie.spec (λ c κs. tt) returns (λ c κs. tt) (λ c κs. tt) (λ c κs. tt) (λ c κs. tt) (λ c κs. tt) returns-2)

@@ -1,0 +1,3 @@
+-- The definitions of the crate `moves`.
+pub mod Finish
+pub mod Plain
