@@ -1,0 +1,3 @@
+-- The definitions of the crate `steplaws`.
+pub mod Rows
+pub mod Theorems
