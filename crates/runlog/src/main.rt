@@ -1,0 +1,79 @@
+// Runs the log on standard input and prints a line for each record, then the last line. All that matters is in the crates below: main reads, walks and prints.
+use base::refusal;
+use base::written::Written;
+use charger::paging;
+use charger::paging::Stop;
+use charger::walking;
+use charger::walking::Walk;
+use libc::STDIN_FILENO;
+use libc::STDOUT_FILENO;
+use lines::text;
+use printing::PageLines;
+
+// Prints a page's lines.
+fn print_page(lines: PageLines, count: usize) {
+    let mut out = [0u8; 2048];
+    let put = printing::page(&mut out, lines, count);
+    let Written::Count(n) = put else {
+        return;
+    };
+    if n <= 2048 {
+        io::write_all(STDOUT_FILENO, &out[..n]);
+    }
+}
+
+// Prints the last line: records read, code, offset.
+fn print_end(number: u32, code: u32, offset: usize) {
+    let mut out = [0u8; 64];
+    let place = (offset % 4294967296) as u32;
+    let put = text::end(&mut out, [number, code, place]);
+    let Written::Count(n) = put else {
+        return;
+    };
+    if n <= 64 {
+        io::write_all(STDOUT_FILENO, &out[..n]);
+    }
+}
+
+// Prints the last line where a walk ends, and whether it does.
+fn ended(w: Walk, stop: Stop) -> bool {
+    match stop {
+        Stop::Full => false,
+        Stop::End => {
+            print_end(w.number, 0, w.place);
+            true
+        }
+        Stop::Unreadable(r, place) => {
+            print_end(w.number, refusal::number(r), place);
+            true
+        }
+    }
+}
+
+// Runs a log of 65,536 bytes at the most: a record has a byte at least, so 4,097 pages of 16 are enough.
+fn run(log: &[u8]) {
+    let mut walk = walking::start();
+    let mut turns: usize = 0;
+    while turns < 4097 {
+        let p = paging::turn(log, walk);
+        let lines = p.lines;
+        let after = p.walk;
+        let stop = p.stop;
+        print_page(lines, p.count);
+        if ended(after, stop) {
+            return;
+        }
+        walk = after;
+        turns += 1;
+    }
+}
+
+fn main() {
+    let mut input = [0u8; 65537];
+    let n = io::read_full(STDIN_FILENO, &mut input);
+    if 65536 < n {
+        print_end(0, 13, 0);
+        return;
+    }
+    run(&input[..n]);
+}
