@@ -1,0 +1,102 @@
+//! Logs, records and models made from a seed, to compare implementations on.
+//! Equal seeds make equal bytes.
+//!
+//! * [`plausible_log`]: a charger's days, with values at every threshold.
+//! * [`any_log`]: valid records of any numbers at all.
+//! * [`damaged_log`]: a plausible log with bytes changed, cut or put in.
+//! * [`log_pair`]: two logs that share a start.
+//! * [`any_state`], [`spoiled_state`]: models handed in from outside.
+
+use crate::event::Event;
+use crate::record::{self, Reading};
+
+mod aim;
+mod damage;
+mod probe;
+mod records;
+mod rng;
+mod states;
+mod walk;
+
+pub use records::any_event;
+pub use rng::Rng;
+pub use states::{any_state, spoiled_state};
+
+use damage::damage;
+use walk::Walk;
+
+const MOST_MV: u32 = 45_000;
+const MOST_TS: u32 = 100_000;
+
+/// A plausible log of about `records` records.
+pub fn plausible_log(seed: u64, records: usize) -> Vec<u8> {
+    spelled(&plausible_events(seed, records))
+}
+
+/// The events of [`plausible_log`].
+pub fn plausible_events(seed: u64, records: usize) -> Vec<Event> {
+    let mut walk = Walk::new(seed);
+    while walk.events.len() < records {
+        walk.go_on();
+    }
+    walk.events.truncate(records);
+    walk.events
+}
+
+/// A log of valid records whose numbers may be anything.
+pub fn any_log(seed: u64, records: usize) -> Vec<u8> {
+    let mut rng = Rng::new(seed);
+    let events: Vec<Event> = (0..records).map(|_| any_event(&mut rng)).collect();
+    spelled(&events)
+}
+
+/// A plausible log with one to four damages.
+pub fn damaged_log(seed: u64, records: usize) -> Vec<u8> {
+    let mut log = plausible_log(seed, records);
+    let mut rng = Rng::new(!seed);
+    for _ in 0..rng.within(1, 4) {
+        damage(&mut rng, &mut log);
+    }
+    log
+}
+
+/// Two logs: equal, one the other's start, one damaged, or parting at some
+/// record.
+pub fn log_pair(seed: u64, records: usize) -> (Vec<u8>, Vec<u8>) {
+    let mut rng = Rng::new(seed ^ 0x5EED_50F2_7065_A175);
+    let events = plausible_events(seed, records);
+    let whole = spelled(&events);
+    let shared = rng.place(events.len() + 1);
+    let other = match rng.within(0, 5) {
+        0 => whole.clone(),
+        1 => spelled(&events[..shared]),
+        2 => whole[..rng.place(whole.len() + 1)].to_vec(),
+        3 => {
+            let mut damaged = whole.clone();
+            damage(&mut rng, &mut damaged);
+            damaged
+        }
+        4 => [spelled(&events[..shared]), any_log(rng.bits(), 3)].concat(),
+        _ => [whole.clone(), vec![rng.any() as u8; rng.place(6)]].concat(),
+    };
+    if rng.coin() {
+        (whole, other)
+    } else {
+        (other, whole)
+    }
+}
+
+/// The records of `events`, one after another.
+pub fn spelled(events: &[Event]) -> Vec<u8> {
+    events.iter().flat_map(record::encode).collect()
+}
+
+/// The events of a log, up to its end or the first that can't be read.
+pub fn events_of(log: &[u8]) -> Vec<Event> {
+    let mut reader = record::Reader::new(log);
+    std::iter::from_fn(|| match reader.read() {
+        Reading::Record { event, .. } => Some(event),
+        Reading::Refused(_) | Reading::End => None,
+    })
+    .collect()
+}

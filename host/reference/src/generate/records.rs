@@ -1,0 +1,178 @@
+//! Records of any numbers, in their ranges and out of them.
+
+use super::rng::Rng;
+use super::{MOST_MV, MOST_TS};
+use crate::event::{Event, Profile, Sample};
+use crate::state::MOST_AHEAD_MS;
+
+/// Any event at all: ranges are often kept, and often not.
+pub fn any_event(rng: &mut Rng) -> Event {
+    match rng.within(1, 9) {
+        1 => Event::PowerOn(any_profile(rng)),
+        2 => Event::Set { number: small_or_any(rng, 15), value: any_value(rng) },
+        3 => Event::Write { address: any_address(rng), byte: small_or_any(rng, 256) },
+        4 => Event::TakeFlags,
+        5 => Event::Service,
+        6 => Event::Reset,
+        _ => Event::Observe(any_sample(rng)),
+    }
+}
+
+fn small_or_any(rng: &mut Rng, most: u32) -> u32 {
+    if rng.once_in(6) {
+        rng.any_length()
+    } else {
+        rng.within(0, most)
+    }
+}
+
+fn any_address(rng: &mut Rng) -> u32 {
+    if rng.once_in(6) {
+        rng.any_length()
+    } else {
+        rng.within(0x14, 0x1D)
+    }
+}
+
+fn any_value(rng: &mut Rng) -> u32 {
+    match rng.within(0, 3) {
+        0 => rng.any_length(),
+        1 => rng.within(0, 4),
+        2 => rng.within(0, 4_097),
+        _ => rng.within(0, 3_400) * 10,
+    }
+}
+
+pub(super) fn any_profile(rng: &mut Rng) -> Profile {
+    let mut profile = good_profile(rng);
+    if rng.coin() {
+        let odd = rng.any_length();
+        spoil_profile(rng, &mut profile, odd);
+    }
+    profile
+}
+
+fn spoil_profile(rng: &mut Rng, profile: &mut Profile, odd: u32) {
+    match rng.within(0, 9) {
+        0 => profile.cell = rng.pick(&[8, odd]),
+        1 => profile.vchg = rng.pick(&[8, odd]),
+        2 => profile.ichg = rng.pick(&[8, odd]),
+        3 => profile.ohms = rng.pick(&[33_001, odd]),
+        4 => profile.stamp = odd,
+        5 => profile.ceiling = rng.pick(&[4_349, 4_715, odd]),
+        6 => profile.trickle = rng.pick(&[172_801, odd]),
+        7 => profile.precharge = rng.pick(&[172_801, odd]),
+        8 => profile.fast = rng.pick(&[172_801, odd]),
+        _ => profile.watchdog = rng.pick(&[172_801, odd]),
+    }
+}
+
+/// A good profile with one number at an end of its range or just outside.
+pub(super) fn edge_of_profile(rng: &mut Rng) -> Profile {
+    let mut profile = good_profile(rng);
+    let code = rng.pick(&[0, 7, 8]);
+    let seconds = rng.pick(&[0, 172_800, 172_801]);
+    match rng.within(0, 8) {
+        0 => profile.cell = code,
+        1 => profile.vchg = code,
+        2 => profile.ichg = code,
+        3 => profile.ohms = rng.pick(&[0, 33_000, 33_001]),
+        4 => profile.ceiling = rng.pick(&[4_349, 4_350, 4_714, 4_715]),
+        5 => profile.trickle = seconds,
+        6 => profile.precharge = seconds,
+        7 => profile.fast = seconds,
+        _ => profile.watchdog = seconds,
+    }
+    profile
+}
+
+/// A sample with one number at an end of its range or just outside.
+pub(super) fn edge_of_sample(rng: &mut Rng, held: Sample) -> Sample {
+    let mut sample = held;
+    match rng.within(0, 4) {
+        0 => sample.vin = rng.pick(&[0, 45_000, 45_001]),
+        1 => sample.vbat = rng.pick(&[0, 45_000, 45_001]),
+        2 => sample.ibat = rng.pick(&[-10_001, -10_000, 5_000, 5_001]),
+        3 => sample.ts = rng.pick(&[0, 100_000, 100_001]),
+        _ => sample.bits = rng.pick(&[0, 63, 64]),
+    }
+    sample
+}
+
+fn any_sample(rng: &mut Rng) -> Sample {
+    let mut sample = Sample {
+        stamp: rng.within(0, MOST_AHEAD_MS),
+        vin: rng.within(0, MOST_MV),
+        vbat: rng.within(0, MOST_MV),
+        ibat: rng.within_signed(-10_000, 5_000),
+        ts: rng.within(0, MOST_TS),
+        bits: rng.within(0, 63),
+    };
+    if rng.coin() {
+        let odd = rng.any_length();
+        spoil_sample(rng, &mut sample, odd);
+    }
+    sample
+}
+
+fn spoil_sample(rng: &mut Rng, sample: &mut Sample, odd: u32) {
+    match rng.within(0, 5) {
+        0 => sample.stamp = odd,
+        1 => sample.vin = rng.pick(&[45_000, 45_001, odd]),
+        2 => sample.vbat = rng.pick(&[45_000, 45_001, odd]),
+        3 => sample.ibat = rng.pick(&[-10_001, -10_000, 5_000, 5_001, odd as i32, i32::MIN]),
+        4 => sample.ts = rng.pick(&[100_000, 100_001, odd]),
+        _ => sample.bits = rng.pick(&[64, odd]),
+    }
+}
+
+/// A power-on's numbers in their ranges, faults now and then.
+pub(super) fn good_profile(rng: &mut Rng) -> Profile {
+    Profile {
+        cell: code(rng),
+        vchg: code(rng),
+        ichg: code(rng),
+        ohms: ohms(rng),
+        stamp: start_stamp(rng),
+        ceiling: rng.pick(&[4_350, 4_351, 4_400, 4_500, 4_650, 4_714]),
+        trickle: seconds(rng),
+        precharge: seconds(rng),
+        fast: seconds(rng),
+        watchdog: seconds(rng),
+    }
+}
+
+fn code(rng: &mut Rng) -> u32 {
+    if rng.once_in(12) {
+        0
+    } else {
+        rng.within(1, 7)
+    }
+}
+
+fn ohms(rng: &mut Rng) -> u32 {
+    match rng.within(0, 3) {
+        0 => 0,
+        1 => rng.pick(&[1, 1_009, 1_010, 1_011, 1_100, 3_333, 6_040, 33_000]),
+        _ => rng.within(900, 33_000),
+    }
+}
+
+/// Stamps from 0, from anywhere, and soon to wrap.
+fn start_stamp(rng: &mut Rng) -> u32 {
+    match rng.within(0, 2) {
+        0 => 0,
+        1 => u32::MAX - rng.within(0, 3_000_000),
+        _ => rng.any(),
+    }
+}
+
+fn seconds(rng: &mut Rng) -> u32 {
+    match rng.within(0, 4) {
+        0 => 0,
+        1 => rng.pick(&[1, 2, 172_800]),
+        2 => rng.within(1, 60),
+        3 => rng.within(60, 3_600),
+        _ => rng.pick(&[3_600, 7_200, 36_000]),
+    }
+}

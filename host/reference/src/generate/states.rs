@@ -1,0 +1,148 @@
+//! Models handed in from outside.
+
+use super::aim::{around, threshold_of_ts, threshold_of_vbat, threshold_of_vin};
+use super::records::good_profile;
+use super::rng::Rng;
+use super::MOST_TS;
+use crate::event::Sample;
+use crate::pins::{Overrides, Pins};
+use crate::registers::{Control, WRITABLE};
+use crate::settings::{Setting, Settings};
+use crate::state::{Comparators, Cycle, PerStage, Stage, State, MOST_AHEAD_MS, UNITS_PER_SECOND};
+use crate::volts::CellMv;
+
+/// Any state that a model may hold, related or not to what a run makes.
+pub fn any_state(rng: &mut Rng) -> State {
+    let profile = good_profile(rng);
+    let limits =
+        PerStage { trickle: profile.trickle, precharge: profile.precharge, fast: profile.fast };
+    let phase = rng.within(0, 7);
+    let mut state = State {
+        pins: Pins { cell: profile.cell, vchg: profile.vchg, ichg: profile.ichg },
+        overrides: Overrides { vchg: rng.coin(), cell: rng.coin(), ichg: rng.coin() },
+        ohms: profile.ohms,
+        ceiling: CellMv(profile.ceiling),
+        limits,
+        period: profile.watchdog,
+        settings: any_settings(rng),
+        control: any_control(rng),
+        comparators: any_comparators(rng),
+        cycle: Cycle { times: any_times(rng, &limits, phase), done: rng.coin() },
+        watchdog: any_below(rng, profile.watchdog * 1_000 + 1),
+        sample: Sample::at_power_on(profile.stamp),
+        phase,
+        flags: rng.within(0, 4_095),
+    };
+    state.sample.vin = if rng.coin() { 5_000 } else { threshold_of_vin(rng) };
+    state.sample.vbat = threshold_of_vbat(rng, &state);
+    state.sample.ts = threshold_of_ts(rng, &state).min(MOST_TS);
+    state.sample.ibat = around(rng, state.settings[Setting::Iterm] as i32);
+    state.sample.bits = if rng.coin() { 0 } else { rng.within(0, 63) };
+    state
+}
+
+/// A number below `end`, which isn't 0: often near it, or 0.
+fn any_below(rng: &mut Rng, end: u32) -> u32 {
+    let last = end - 1;
+    let near_last = last - rng.within(0, last.min(2_000));
+    let free = rng.within(0, last);
+    rng.pick(&[0, last, near_last, free])
+}
+
+fn any_times(rng: &mut Rng, limits: &PerStage, phase: u32) -> PerStage {
+    let mut times = PerStage::default();
+    for stage in Stage::ALL {
+        let end = UNITS_PER_SECOND * limits.of(stage);
+        if end != 0 {
+            let held = Stage::of_phase(phase) == Some(stage);
+            let beyond = if held || !rng.once_in(4) { 0 } else { 2 * MOST_AHEAD_MS };
+            *times.of_mut(stage) = any_below(rng, end + beyond);
+        }
+    }
+    times
+}
+
+fn any_settings(rng: &mut Rng) -> Settings {
+    let mut settings = Settings([0; 14]);
+    for setting in Setting::ALL {
+        let range = setting.range();
+        let steps = (range.most - range.least) / range.step;
+        settings[setting] = range.least + rng.within(0, steps) * range.step;
+    }
+    if !rng.once_in(4) {
+        settings[Setting::EnChg] = 1;
+        settings[Setting::EnHiz] = 0;
+    }
+    settings
+}
+
+fn any_control(rng: &mut Rng) -> Control {
+    let mut bytes = WRITABLE.map(|mask| rng.any() as u8 & mask);
+    bytes[1] = bytes[1] & !7 | rng.within(1, 6) as u8;
+    Control(bytes)
+}
+
+fn any_comparators(rng: &mut Rng) -> Comparators {
+    Comparators {
+        vin_ok: rng.coin(),
+        vin_over: rng.coin(),
+        short: rng.coin(),
+        low: rng.coin(),
+        battery_over: rng.coin(),
+    }
+}
+
+/// A state with one field, or a few, just outside what a model may hold.
+pub fn spoiled_state(rng: &mut Rng) -> State {
+    let mut state = any_state(rng);
+    for _ in 0..rng.within(1, 2) {
+        spoil(rng, &mut state);
+    }
+    state
+}
+
+fn spoil(rng: &mut Rng, state: &mut State) {
+    match rng.within(0, 18) {
+        0 => state.pins.cell = 8,
+        1 => state.pins.vchg = 8,
+        2 => state.pins.ichg = 8,
+        3 => state.ohms = 33_001,
+        4 => state.ceiling = CellMv(rng.pick(&[4_349, 4_715])),
+        5 => state.period = 172_801,
+        6 => spoil_setting(rng, &mut state.settings),
+        7 => state.control.0[0] |= rng.pick(&[0x04, 0x10, 0x80]),
+        8 => state.control.0[1] = state.control.0[1] & !7 | rng.pick(&[0, 7]),
+        9 => state.control.0[5] |= 0x10,
+        10 => state.watchdog = state.watchdog_end() + 1,
+        11 => state.sample.vin = 45_001,
+        12 => state.sample.vbat = 45_001,
+        13 => state.sample.ibat = rng.pick(&[-10_001, 5_001]),
+        14 => state.sample.ts = 100_001,
+        15 => state.sample.bits = 64,
+        16 => state.phase = 8,
+        17 => state.flags = 4_096,
+        _ => spoil_time(rng, state),
+    }
+}
+
+fn spoil_setting(rng: &mut Rng, settings: &mut Settings) {
+    let setting = rng.pick(&Setting::ALL);
+    let range = setting.range();
+    settings[setting] = range.most + rng.pick(&[1, range.step]);
+}
+
+/// The least time a stage may not hold, or a limit out of its range.
+fn spoil_time(rng: &mut Rng, state: &mut State) {
+    let stage = rng.pick(&Stage::ALL);
+    if rng.once_in(4) {
+        *state.limits.of_mut(stage) = 172_801;
+        return;
+    }
+    let end = UNITS_PER_SECOND * state.limits.of(stage);
+    let held = Stage::of_phase(state.phase) == Some(stage);
+    *state.cycle.times.of_mut(stage) = match (end, held) {
+        (0, _) => 1,
+        (_, true) => end,
+        (_, false) => end + 2 * MOST_AHEAD_MS,
+    };
+}
