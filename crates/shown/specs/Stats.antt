@@ -1,4 +1,5 @@
 -- 01, "Settling, in order": "STAT: low in 1-4, blinking in 6-7, else high; high if disabled."
+use Prim.Native.Nat.{ℕ}
 use Rattle.base.specs.Pick.{pick}
 use Rattle.parts.specs.declared.phase.Phase.{Phase}
 use Rattle.parts.specs.declared.phase.Phase.the-variants.{Idle, Trickle, Precharge, Fast, Taper, Done, Suspended, Fault}
@@ -18,3 +19,9 @@ statIn Fault = Blinking
 
 unfoldable pub statOf : State → Stat
 statOf s = pick (s .settings .disstat) High (statIn (s .phase))
+
+-- STAT's numbers (house), in the order in which 01 names them
+abbrev pub statNumber : Stat → ℕ
+statNumber Low = 0
+statNumber Blinking = 1
+statNumber High = 2

@@ -1,7 +1,7 @@
 // The STAT pin.
 ghost use mathlib.Core.Path.{_≡_};
 ghost use Rattle.base.specs.Pick.{pick};
-ghost use Rattle.shown.specs.Stats.{statIn, statOf};
+ghost use Rattle.shown.specs.Stats.{statIn, statOf, statNumber};
 use crate::answer::Stat;
 use parts::phase::Phase;
 use parts::state::State;
@@ -36,4 +36,15 @@ pub fn stat(state: State) -> Stat
     let phase = state.phase;
     let shown = stat_in(phase);
     choose_stat(disabled, Stat::High, shown)
+}
+
+// The number of what the pin shows.
+pub fn number(stat: Stat) -> u32
+    ensures { λ r. ⌜ r ≡ statNumber stat ⌝ }
+{
+    match stat {
+        Stat::Low => 0,
+        Stat::Blinking => 1,
+        Stat::High => 2,
+    }
 }
