@@ -1,6 +1,5 @@
 // The charger's model, moved by one event or by one record of a log.
 pub mod clock;
 pub mod paging;
-pub mod reading;
 pub mod step;
 pub mod walking;

@@ -13,7 +13,7 @@ use Rattle.base.proofs.Puts.{lent, sets-append, put-fits, written-fits}
 use Rattle.event.proofs.Remaking.{written-out, rebuilt}
 use Rattle.lines.specs.Decimal.{decimal}
 use Rattle.lines.specs.Text.{lineText}
-use Rattle.charger.specs.declared.walking.Line.{Line}
+use Rattle.shown.specs.declared.line.Line.{Line}
 use Rattle.printing.specs.Text.{numbersOf, linesText, pageText}
 
 abbrev wide : ℕ → ℕ

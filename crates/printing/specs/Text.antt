@@ -3,7 +3,7 @@ use Prim.Native.Nat.{ℕ}
 use mathlib.Core.List.{List, [], _∷_, _++_}
 use lib.ListN.{take}
 use Rattle.lines.specs.Text.{lineText}
-use Rattle.charger.specs.declared.walking.Line.{Line}
+use Rattle.shown.specs.declared.line.Line.{Line}
 
 unfoldable pub numbersOf : Line → List ℕ
 numbersOf l = l .number ∷ l .kind ∷ l .answer ∷ l .phase ∷ l .current ∷ l .voltage ∷ l .limit ∷ l .pulse ∷ l .flags ∷ []

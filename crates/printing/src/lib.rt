@@ -7,10 +7,10 @@ ghost use Rattle.lines.specs.Text.{lineText};
 ghost use Rattle.printing.specs.Text.{numbersOf, linesText, pageText};
 use base::refusal::Refusal;
 use base::written::Written;
-use charger::walking::Line;
 use lines::decimal;
 use lines::text;
 use lines::text::LineNumbers;
+use shown::line::Line;
 
 // A page's lines.
 pub type PageLines = [Line; 16];

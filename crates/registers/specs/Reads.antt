@@ -9,6 +9,8 @@ use Rattle.fields.specs.Rows.{shownOf}
 use Rattle.parts.specs.declared.profile.Profile.{Profile}
 use Rattle.parts.specs.declared.registers.Registers.{Registers}
 use Rattle.parts.specs.declared.state.State.{State}
+use Rattle.parts.specs.declared.state.Model.{Model}
+use Rattle.parts.specs.declared.state.Model.the-variants.{Off, On}
 use Rattle.registers.specs.declared.reading.ReadAnswer.{ReadAnswer}
 use Rattle.registers.specs.declared.reading.ReadAnswer.the-variants.{Byte, Refused}
 
@@ -42,3 +44,8 @@ byteAt s address =
 
 unfoldable pub readOf : State → ℕ → Told ℕ
 readOf s address = pick (knownAddress address) (accepted (shownOf address (byteAt s address))) (refused 10)
+
+-- "Reads .. can refuse with 6, then 10."
+unfoldable pub readRegisterOf : Model → ℕ → Told ℕ
+readRegisterOf Off address = refused 6
+readRegisterOf (On s) address = readOf s address

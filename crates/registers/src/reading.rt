@@ -2,11 +2,12 @@
 ghost use mathlib.Core.Path.{_≡_};
 ghost use Rattle.base.specs.Pick.{pick};
 ghost use Rattle.base.specs.Told.{accepted, refused};
-ghost use Rattle.registers.specs.Reads.{readTold, knownAddress, byte1B, byte1C, byteAt, readOf};
+ghost use Rattle.registers.specs.Reads.{readRegisterOf, readTold, knownAddress, byte1B, byte1C, byteAt, readOf};
 use base::choice;
 use base::refusal::Refusal;
 use parts::profile::Profile;
 use parts::registers::Registers;
+use parts::state::Model;
 use parts::state::State;
 
 pub enum ReadAnswer {
@@ -76,4 +77,14 @@ pub fn read(s: State, address: u32) -> ReadAnswer
     let held = byte_at(s, address);
     let byte = fields::shown(address, held);
     answered(there, byte)
+}
+
+// A register of a model: 6 before a power-on, then 10. Nothing changes.
+pub fn read_register(m: Model, address: u32) -> ReadAnswer
+    ensures { λ r. ⌜ readTold r ≡ readRegisterOf m address ⌝ }
+{
+    match m {
+        Model::Off => ReadAnswer::Refused(Refusal::NotPowered),
+        Model::On(s) => read(s, address),
+    }
 }

@@ -1,4 +1,5 @@
 -- The definitions of the crate.
 pub mod Report
+pub mod Lines
 pub mod Stats
 pub mod Theorems

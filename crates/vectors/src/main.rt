@@ -7,12 +7,12 @@ mod say;
 use base::refusal;
 use base::written::Written;
 use charger::walking;
-use charger::walking::Line;
 use charger::walking::Met;
 use charger::walking::Walk;
 use charger::walking::Walked;
 use libc::STDOUT_FILENO;
 use lines::text;
+use shown::line::Line;
 
 // Prints a record's line.
 fn print_line(l: Line) {

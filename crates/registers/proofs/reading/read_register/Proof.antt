@@ -1,8 +1,8 @@
 -- `read_register` meets its contract, case by case.
 use borrow.Author.Needs.{needs}
-use Rattle.charger.specs.Reads.{readRegisterOf}
-use Rattle.charger.proofs.reading.read_register.Statement.{statement}
-use Rattle.charger.proofs.reading.read_register.Tie as tie
+use Rattle.registers.specs.Reads.{readRegisterOf}
+use Rattle.registers.proofs.reading.read_register.Statement.{statement}
+use Rattle.registers.proofs.reading.read_register.Tie as tie
 
 returns : tie.Need-returns
 unfolding readRegisterOf
