@@ -1,0 +1,4 @@
+-- The laws of the crate `reader`.
+mod Cuts
+mod Held
+pub mod Rests
