@@ -1,0 +1,79 @@
+-- "For each public call and every input, refusals too, the contract settles result and lent bytes": the contract of each public call, word for word as it stands above the
+-- call, allows one outcome. Calls whose bytes are lent to be written have the bytes in the outcome.
+use Prim.Native.Nat.{ℕ, _≤_}
+use mathlib.Core.Path.{_≡_}
+use mathlib.Core.Bool.{Bool}
+use mathlib.Core.List.{List}
+use lib.ListN.{length}
+use denote.Ref.{RefT}
+use Rattle.base.specs.Stamps.{elapsedOf}
+use Rattle.base.specs.Units.{inPack}
+use Rattle.base.specs.Writing.{writtenTold, written, put}
+use Rattle.base.specs.declared.units.CellMv.{CellMv}
+use Rattle.parts.specs.declared.state.State.{State}
+use Rattle.parts.specs.declared.state.Model.{Model}
+use Rattle.number.specs.Number.{numberTold, numberAt, spell}
+use Rattle.event.specs.Kinds.{kinds, knownTold, rowFor}
+use Rattle.event.specs.Events.{kindOf}
+use Rattle.event.specs.declared.Event.{Event}
+use Rattle.record.specs.Records.{readTold, recordAt, spellEvent}
+use Rattle.reader.specs.Readers.{startOf, nextOf, movedTo, restOf}
+use Rattle.reader.specs.declared.LogReader.{LogReader}
+use Rattle.judge.specs.Settle.{settleOf}
+use Rattle.shown.specs.Report.{reportOf}
+use Rattle.shown.specs.Stats.{statOf}
+use Rattle.registers.specs.Reads as reads
+use Rattle.registers.specs.Writes.{writeTold, writeOf}
+use Rattle.registers.specs.Resets.{resetOf}
+use Rattle.moves.specs.Plain.{steppedTold}
+use Rattle.charger.specs.Steps.{stepOf}
+use Rattle.charger.specs.Walks.{walkedTold, walkOf, startWalk}
+use Rattle.charger.specs.Pages.{pageTold, pageOf}
+use Rattle.charger.specs.declared.walking.Walk.{Walk}
+use Rattle.charger.specs.declared.paging.Page.{Page}
+use Rattle.lines.specs.Text.{lineText, endText}
+use Rattle.outcome.specs.One.{One, Tells, TellsBytes, itself}
+
+-- the leaves and the log's spelling
+pub record CodecCalls : Type 0 where
+  pub in-pack : (each : CellMv) (cells : ℕ) → One (Tells itself (inPack each cells))
+  pub elapsed : (earlier later : ℕ) → One (Tells itself (elapsedOf earlier later))
+  pub read-number : (log : List ℕ) (at : ℕ) → One (Tells numberTold (numberAt log at))
+  pub number-width : (n : ℕ) → One (λ (r : ℕ). (r ≡ length (spell n)) × (r ≤ 5))
+  pub write-number : (n : ℕ) (part : List ℕ) → One (TellsBytes writtenTold (written (spell n) part) (put (spell n) part))
+  pub kind : (e : Event) → One (Tells itself (kindOf e))
+  pub kind-for : (first : ℕ) → One (Tells knownTold (rowFor kinds first))
+  pub read-record : (log : List ℕ) (at : ℕ) → One (Tells readTold (recordAt kinds log at))
+  pub record-width : (e : Event) → One (λ (r : ℕ). (r ≡ length (spellEvent e)) × (r ≤ 51))
+  pub write-record : (e : Event) (part : List ℕ) → One (TellsBytes writtenTold (written (spellEvent e) part) (put (spellEvent e) part))
+
+-- the log reader. Of a part that is handed back, what can be seen is its bytes and its place in memory; the name under which the logic follows a reference is not.
+pub record ReaderCalls : Type 0 where
+  pub new : (log : RefT (List ℕ)) → One (Tells itself (startOf log))
+  pub next : (reader : LogReader) → One (Tells readTold (nextOf reader))
+  pub moved : (reader : LogReader) (place : ℕ) → One (Tells itself (movedTo reader place))
+  pub rest : (reader : LogReader) → One (Tells itself (restOf reader))
+
+-- what `turn` promises
+abbrev pub Turned : List ℕ → Walk → Page → Type 0
+Turned log from r = (pageTold r ≡ pageOf 16 log from) × ((r .count ≤ 16) × (length (r .lines) ≡ 16))
+
+-- the model
+pub record ModelCalls : Type 0 where
+  pub settle : (s : State) (observed : Bool) → One (Tells itself (settleOf s observed))
+  pub report : (s : State) → One (Tells itself (reportOf s))
+  pub stat : (s : State) → One (Tells itself (statOf s))
+  pub read : (s : State) (address : ℕ) → One (Tells reads.readTold (reads.readOf s address))
+  pub read-register : (m : Model) (address : ℕ) → One (Tells reads.readTold (reads.readRegisterOf m address))
+  pub write : (s : State) (address byte : ℕ) → One (Tells writeTold (writeOf s address byte))
+  pub reset : (s : State) → One (Tells itself (resetOf s))
+  pub step : (m : Model) (e : Event) → One (Tells steppedTold (stepOf m e))
+  pub walk : (log : List ℕ) (w : Walk) → One (Tells walkedTold (walkOf log w))
+  pub start : One (Tells itself startWalk)
+  -- a page is an array of 16 lines of which the first `count` are told: an exception, since the lines behind them are room, and nothing is said of them
+  pub turn : (log : List ℕ) (from : Walk) (a b : Page) → Turned log from a → Turned log from b → (pageTold a ≡ pageTold b) × (a .count ≡ b .count)
+
+-- what runlog prints
+pub record TextCalls : Type 0 where
+  pub line : (numbers part : List ℕ) → One (TellsBytes writtenTold (written (lineText numbers) part) (put (lineText numbers) part))
+  pub end : (numbers part : List ℕ) → One (TellsBytes writtenTold (written (endText numbers) part) (put (endText numbers) part))

@@ -1,0 +1,3 @@
+-- The definitions of the crate `outcome`.
+pub mod One
+pub mod Calls
