@@ -30,7 +30,14 @@ suspendedIn Hot cool warm = true
 unfoldable pub suspendsOf : Registers → Band → Bool
 suspendsOf g b = suspendedIn b (eqb (isetcOf g) 0) (eqb (vsetOf g) 0)
 
--- "times 20, 40, 100% in cool (ISETC 1-3), 40 or 100% in warm"
+-- "times 20, 40, 100% in cool (ISETC 1-3), 40 or 100% in warm", by code
+abbrev pub coolShare : ℕ → ℕ
+coolShare code = getD (0 ∷ 20 ∷ 40 ∷ 100 ∷ []) code 0
+
+abbrev pub warmShare : ℕ → ℕ
+warmShare code = getD (40 ∷ 100 ∷ []) code 0
+
+-- and by the band
 abbrev pub shareIn : Band → ℕ → ℕ → ℕ
 shareIn Normal cool warm = 100
 shareIn Cold cool warm = 100
@@ -39,7 +46,7 @@ shareIn Warm cool warm = warm
 shareIn Hot cool warm = 100
 
 unfoldable pub shareOf : Registers → Band → ℕ
-shareOf g b = shareIn b (getD (0 ∷ 20 ∷ 40 ∷ 100 ∷ []) (isetcOf g) 0) (getD (40 ∷ 100 ∷ []) (isethOf g) 0)
+shareOf g b = shareIn b (coolShare (isetcOf g)) (warmShare (isethOf g))
 
 abbrev pub isWarm : Band → Bool
 isWarm Normal = false
@@ -49,5 +56,8 @@ isWarm Warm = true
 isWarm Hot = false
 
 -- "less in warm 250, 100 or 0 per cell (JEITA_VSET 1-3)."
+abbrev pub warmCut : ℕ → CellMv
+warmCut code = record { 0 = getD (0 ∷ 250 ∷ 100 ∷ 0 ∷ []) code 0 }
+
 unfoldable pub cutOf : Registers → Band → CellMv
-cutOf g b = pick (isWarm b) (record { 0 = getD (0 ∷ 250 ∷ 100 ∷ 0 ∷ []) (vsetOf g) 0 }) (record { 0 = 0 })
+cutOf g b = pick (isWarm b) (warmCut (vsetOf g)) (record { 0 = 0 })

@@ -9,18 +9,31 @@ use Rattle.parts.specs.declared.band.Band.{Band}
 use Rattle.parts.specs.declared.band.Band.the-variants.{Normal, Cold, Cool, Warm, Hot}
 use Rattle.parts.specs.declared.registers.Registers.{Registers}
 
--- 000, table 6-31, in thousandths of a percent
+-- 000, table 6-31, in thousandths of a percent, by code
+abbrev pub th1At : ℕ → ℕ
+th1At code = getD (77150 ∷ 75320 ∷ 73300 ∷ 70900 ∷ []) code 0
+
+abbrev pub th2At : ℕ → ℕ
+th2At code = getD (70900 ∷ 68250 ∷ 65350 ∷ 62250 ∷ []) code 0
+
+abbrev pub th3At : ℕ → ℕ
+th3At code = getD (48400 ∷ 44750 ∷ 41200 ∷ 37700 ∷ []) code 0
+
+abbrev pub th5At : ℕ → ℕ
+th5At code = getD (41200 ∷ 37700 ∷ 34375 ∷ 31250 ∷ []) code 0
+
+-- and by the register
 abbrev pub th1Of : Registers → ℕ
-th1Of g = getD (77150 ∷ 75320 ∷ 73300 ∷ 70900 ∷ []) (g .r18 % 4) 0
+th1Of g = th1At (g .r18 % 4)
 
 abbrev pub th2Of : Registers → ℕ
-th2Of g = getD (70900 ∷ 68250 ∷ 65350 ∷ 62250 ∷ []) (g .r18 / 4 % 4) 0
+th2Of g = th2At (g .r18 / 4 % 4)
 
 abbrev pub th3Of : Registers → ℕ
-th3Of g = getD (48400 ∷ 44750 ∷ 41200 ∷ 37700 ∷ []) (g .r18 / 16 % 4) 0
+th3Of g = th3At (g .r18 / 16 % 4)
 
 abbrev pub th5Of : Registers → ℕ
-th5Of g = getD (41200 ∷ 37700 ∷ 34375 ∷ 31250 ∷ []) (g .r18 / 64 % 4) 0
+th5Of g = th5At (g .r18 / 64 % 4)
 
 -- 000, table 6-32
 abbrev pub tsOff : Registers → Bool

@@ -36,18 +36,27 @@ abbrev pub goodOf : Latches → Bool
 goodOf k = k .inputok && not (k .inputover)
 
 -- "Short ends at 2,150 per cell, returns below 1,850 (1-2 cells); 2,200 and 2,000 (3-7)."
+abbrev pub shortReturnsAt : ℕ → CellMv
+shortReturnsAt cells = pick (leb cells 2) (record { 0 = 1850 }) (record { 0 = 2000 })
+
+abbrev pub shortEndsAt : ℕ → CellMv
+shortEndsAt cells = pick (leb cells 2) (record { 0 = 2150 }) (record { 0 = 2200 })
+
 abbrev pub shortReturns : Registers → CellMv
-shortReturns g = pick (leb (g .cells) 2) (record { 0 = 1850 }) (record { 0 = 2000 })
+shortReturns g = shortReturnsAt (g .cells)
 
 abbrev pub shortEnds : Registers → CellMv
-shortEnds g = pick (leb (g .cells) 2) (record { 0 = 2150 }) (record { 0 = 2200 })
+shortEnds g = shortEndsAt (g .cells)
 
 unfoldable pub shortOf : Registers → Sample → Bool → Bool
 shortOf g x = held (below (packOf x) (inPack (shortReturns g) (g .cells))) (below (packOf x) (inPack (shortEnds g) (g .cells)))
 
 -- "Low ends at 30, 55, 66.7, 71.4% of base by VBAT_LOWV 0-3, returns 5 points lower."
+abbrev pub lowEndsAt : ℕ → ℕ
+lowEndsAt code = getD (300 ∷ 550 ∷ 667 ∷ 714 ∷ []) code 0
+
 abbrev pub lowEnds : Settings → ℕ
-lowEnds s = getD (300 ∷ 550 ∷ 667 ∷ 714 ∷ []) (s .lowv % 4) 0
+lowEnds s = lowEndsAt (s .lowv % 4)
 
 abbrev pub lowReturns : Settings → ℕ
 lowReturns s = lowEnds s - 50

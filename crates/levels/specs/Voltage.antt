@@ -23,8 +23,11 @@ unfoldable pub taperOf : PackMv → Sample → Bool
 taperOf charge x = within (packOf x) charge 10
 
 -- "VBAT is below 92.7, 94.1, 95.5, 97% of base by VRECHG 0-3"; the whole is what the share is taken of
+abbrev pub rechargeShareAt : ℕ → ℕ
+rechargeShareAt code = getD (927 ∷ 941 ∷ 955 ∷ 970 ∷ []) code 0
+
 abbrev pub rechargeShare : Settings → ℕ
-rechargeShare s = getD (927 ∷ 941 ∷ 955 ∷ 970 ∷ []) (s .vrechg % 4) 0
+rechargeShare s = rechargeShareAt (s .vrechg % 4)
 
 unfoldable pub belowRecharge : Settings → PackMv → Sample → Bool
 belowRecharge s whole x = belowShare (packOf x) whole (rechargeShare s)
