@@ -1,0 +1,10 @@
+-- The definitions of the crate `history`.
+pub mod History
+pub mod Held
+pub mod Valued
+pub mod Judged
+pub mod Cycles
+pub mod Flagged
+pub mod Refused
+pub mod States
+pub mod Runs

@@ -1,0 +1,103 @@
+-- The model's state as the account has it: each field is what the account says of the run.
+use Prim.Native.Nat.{ℕ, _*_, min}
+use mathlib.Core.Bool.{Bool, not}
+use Rattle.base.specs.Volts.{packOf}
+use Rattle.parts.specs.declared.cycle.Cycle.{Cycle}
+use Rattle.parts.specs.declared.flags.Flags.{Flags}
+use Rattle.parts.specs.declared.latches.Latches.{Latches}
+use Rattle.parts.specs.declared.phase.Phase.{Phase}
+use Rattle.parts.specs.declared.registers.Registers.{Registers}
+use Rattle.parts.specs.declared.settings.Settings.{Settings}
+use Rattle.parts.specs.declared.state.State.{State}
+use Rattle.parts.specs.declared.state.Model.{Model}
+use Rattle.parts.specs.declared.state.Model.the-variants.{Off, On}
+use Rattle.parts.specs.declared.watchdog.Watchdog.{Watchdog}
+use Rattle.history.specs.History.{Run}
+use Rattle.history.specs.Held.{profileOf, sampleOf, unserved, vchg, cell, ichg, overridden, cellsOf, byteOf}
+use Rattle.history.specs.Valued.{settingOf, enabled}
+use Rattle.history.specs.Judged.{inputOk, inputOver, short, low, packOver, bandAt}
+use Rattle.history.specs.Cycles.{trickle, precharge, fast, isDone, timeIn, phaseAt}
+use Rattle.history.specs.Flagged as flag
+use Rattle.history.specs.Flagged.{flagged}
+use Rattle.history.specs.Refused.{Past, none, some}
+
+unfoldable pub settingsAt : Run → Settings
+settingsAt r = record {
+  vreg = packOf (settingOf 1 r);
+  ichg = settingOf 2 r;
+  iprechg = settingOf 3 r;
+  iterm = settingOf 4 r;
+  iindpm = settingOf 5 r;
+  vsysmin = packOf (settingOf 6 r);
+  lowv = settingOf 7 r;
+  vrechg = settingOf 8 r;
+  enchg = enabled 9 r;
+  enterm = enabled 10 r;
+  enhiz = enabled 11 r;
+  enextilim = enabled 12 r;
+  disstat = enabled 13 r;
+  masks = settingOf 14 r;
+}
+
+unfoldable pub registersAt : Run → Registers
+registersAt r = record {
+  r15 = byteOf 0x15 r;
+  r16 = byteOf 0x16 r;
+  r17 = byteOf 0x17 r;
+  r18 = byteOf 0x18 r;
+  r19 = byteOf 0x19 r;
+  r1a = byteOf 0x1A r;
+  cells = cellsOf r;
+  vchgoverride = overridden vchg r;
+  celloverride = overridden cell r;
+  ichgoverride = overridden ichg r;
+}
+
+unfoldable pub latchesAt : Run → Latches
+latchesAt r = record { inputok = inputOk r; inputover = inputOver r; short = short r; low = low r; packover = packOver r }
+
+-- "it rests": the count is held as the lower of the period and the time since it was zeroed
+unfoldable pub watchdogAt : Run → Watchdog
+watchdogAt r = record { count = min (unserved r) (profileOf r .watchdog * 1000) }
+
+module _ (P : Run → Phase) where
+  unfoldable pub cycleAt : Run → Cycle
+  cycleAt r = record { trickle = timeIn P trickle r; precharge = timeIn P precharge r; fast = timeIn P fast r; done = isDone P r }
+
+  unfoldable pub flagsAt : Run → Flags
+  flagsAt r = record {
+    good = flagged P flag.good r;
+    lost = flagged P flag.lost r;
+    iindpm = flagged P flag.iindpm r;
+    vindpm = flagged P flag.vindpm r;
+    thermal = flagged P flag.thermal r;
+    expired = flagged P flag.expiry r;
+    phase = flagged P flag.phase r;
+    band = flagged P flag.band r;
+    inputover = flagged P flag.inputover r;
+    shutdown = flagged P flag.shutdown r;
+    packover = flagged P flag.packover r;
+    limit = flagged P flag.limit r;
+  }
+
+  unfoldable pub stateBy : Run → State
+  stateBy r = record {
+    profile = profileOf r;
+    settings = settingsAt r;
+    registers = registersAt r;
+    latches = latchesAt r;
+    cycle = cycleAt r;
+    watchdog = watchdogAt r;
+    sample = sampleOf r;
+    phase = P r;
+    band = bandAt r;
+    flags = flagsAt r;
+  }
+
+abbrev pub stateOf : Run → State
+stateOf = stateBy phaseAt
+
+-- and the model after what has come before
+abbrev pub modelOf : Past → Model
+modelOf none = Off
+modelOf (some r) = On (stateOf r)
