@@ -1,2 +1,3 @@
 -- The laws of the crate `history`.
 mod Rows
+pub mod Past
