@@ -1,3 +1,9 @@
 -- The laws of the crate `history`.
 mod Rows
 pub mod Past
+mod Rule
+mod Choices
+mod Dogs
+mod Values
+mod Bytes
+mod Found

@@ -1,6 +1,6 @@
 -- The model's state as the account has it: each field is what the account says of the run.
 use Prim.Native.Nat.{ℕ, _*_, min}
-use mathlib.Core.Bool.{Bool, not}
+use lib.Dec.{eqb}
 use Rattle.base.specs.Volts.{packOf}
 use Rattle.parts.specs.declared.cycle.Cycle.{Cycle}
 use Rattle.parts.specs.declared.flags.Flags.{Flags}
@@ -14,30 +14,34 @@ use Rattle.parts.specs.declared.state.Model.the-variants.{Off, On}
 use Rattle.parts.specs.declared.watchdog.Watchdog.{Watchdog}
 use Rattle.history.specs.History.{Run}
 use Rattle.history.specs.Held.{profileOf, sampleOf, unserved, vchg, cell, ichg, overridden, cellsOf, byteOf}
-use Rattle.history.specs.Valued.{settingOf, enabled}
+use Rattle.history.specs.Valued.{settingOf}
 use Rattle.history.specs.Judged.{inputOk, inputOver, short, low, packOver, bandAt}
 use Rattle.history.specs.Cycles.{trickle, precharge, fast, isDone, timeIn, phaseAt}
 use Rattle.history.specs.Flagged as flag
 use Rattle.history.specs.Flagged.{flagged}
 use Rattle.history.specs.Refused.{Past, none, some}
 
-unfoldable pub settingsAt : Run → Settings
-settingsAt r = record {
-  vreg = packOf (settingOf 1 r);
-  ichg = settingOf 2 r;
-  iprechg = settingOf 3 r;
-  iterm = settingOf 4 r;
-  iindpm = settingOf 5 r;
-  vsysmin = packOf (settingOf 6 r);
-  lowv = settingOf 7 r;
-  vrechg = settingOf 8 r;
-  enchg = enabled 9 r;
-  enterm = enabled 10 r;
-  enhiz = enabled 11 r;
-  enextilim = enabled 12 r;
-  disstat = enabled 13 r;
-  masks = settingOf 14 r;
+-- settings of these numbers
+abbrev pub numbered : (ℕ → ℕ) → Settings
+numbered value = record {
+  vreg = packOf (value 1);
+  ichg = value 2;
+  iprechg = value 3;
+  iterm = value 4;
+  iindpm = value 5;
+  vsysmin = packOf (value 6);
+  lowv = value 7;
+  vrechg = value 8;
+  enchg = eqb (value 9) 1;
+  enterm = eqb (value 10) 1;
+  enhiz = eqb (value 11) 1;
+  enextilim = eqb (value 12) 1;
+  disstat = eqb (value 13) 1;
+  masks = value 14;
 }
+
+unfoldable pub settingsAt : Run → Settings
+settingsAt r = numbered (λ number. settingOf number r)
 
 unfoldable pub registersAt : Run → Registers
 registersAt r = record {
