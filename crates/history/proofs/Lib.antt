@@ -7,3 +7,4 @@ mod Dogs
 mod Values
 mod Bytes
 mod Found
+mod Judging
