@@ -8,3 +8,4 @@ mod Values
 mod Bytes
 mod Found
 mod Judging
+pub mod Settling
