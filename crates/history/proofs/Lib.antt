@@ -9,3 +9,4 @@ mod Bytes
 mod Found
 mod Judging
 pub mod Settling
+mod Raising

@@ -2,11 +2,14 @@
 use Prim.Native.Nat.{ℕ}
 use mathlib.Core.Bool.{Bool, true, false, not, _&&_, _||_}
 use lib.Dec.{eqb}
+use Rattle.parts.specs.Edges.{pulseOf}
 use Rattle.parts.specs.Numbers.{phaseNumber, bandNumber}
+use Rattle.parts.specs.declared.flags.Flags.{Flags}
 use Rattle.parts.specs.declared.phase.Phase.{Phase}
 use Rattle.sense.specs.Bits.{iindpmOf, vindpmOf, thermalOf, shutdownOf}
 use Rattle.history.specs.History.{Run, powered, _▸_, set, write, takeFlags, observe, service, reset, since}
 use Rattle.history.specs.Held.{sampleOf, expired}
+use Rattle.history.specs.Valued.{settingOf}
 use Rattle.history.specs.Judged.{inputGood, inputOver, packOver, bandAt}
 use Rattle.history.specs.Cycles.{limitReached}
 
@@ -27,6 +30,23 @@ placeOf inputover = 8
 placeOf shutdown = 9
 placeOf packover = 10
 placeOf limit = 11
+
+-- the flags, each by its test
+abbrev pub flagsBy : (Flag → Bool) → Flags
+flagsBy test = record {
+  good = test good;
+  lost = test lost;
+  iindpm = test iindpm;
+  vindpm = test vindpm;
+  thermal = test thermal;
+  expired = test expiry;
+  phase = test phase;
+  band = test band;
+  inputover = test inputover;
+  shutdown = test shutdown;
+  packover = test packover;
+  limit = test limit;
+}
 
 -- "Flags, on an edge between the state before the event and the state after settling": two moments, one event apart
 abbrev pub begins : (Run → Bool) → Run → Bool
@@ -76,3 +96,13 @@ module _ (P : Run → Phase) where
   -- a flag is held from its edge on until the flags are taken, those of that event too
   unfoldable pub flagged : Flag → Run → Bool
   flagged k = since (λ m. not (wasTaken m)) (λ m. not (wasTaken m) && raised k m)
+
+  -- "take flags | none; hands back the held flags and clears them"; no other event hands any back
+  unfoldable pub handedBack : Flag → Run → Bool
+  handedBack k (powered p) = false
+  handedBack k (r ▸ e) = wasTaken (r ▸ e) && (flagged k r || edge k (r ▸ e))
+
+  -- "One pulse per event with an unmasked edge, by the masks after it." "Power-on sets flags to 32 and pulses."
+  unfoldable pub pulsed : Run → Bool
+  pulsed (powered p) = true
+  pulsed (r ▸ e) = pulseOf (flagsBy (λ k. edge k (r ▸ e))) (settingOf 14 (r ▸ e))

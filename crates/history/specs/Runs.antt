@@ -16,8 +16,8 @@ use Rattle.charger.specs.Wholes.{eventsOf}
 use Rattle.history.specs.History.{Later, asEvent, Run, powered, _▸_}
 use Rattle.history.specs.Judged.{permitted, suspended, rechargeDue}
 use Rattle.history.specs.Cycles.{fault, wasDone, restarts, Keeps, phaseAt}
-use Rattle.history.specs.Refused.{Accepted, Past, none, some, refusalOf, nextOf, pastOf}
-use Rattle.history.specs.States.{stateOf, modelOf}
+use Rattle.history.specs.Refused.{Accepted, Past, none, some, refusalOf, pastOf}
+use Rattle.history.specs.States.{stateOf, modelOf, outcomeOf}
 
 -- the model after a run
 unfoldable pub runOf : Run → Model
@@ -33,14 +33,12 @@ abbrev pub Lawful : Past → Type 0
 Lawful none = Unit {0}
 Lawful (some r) = Accepted r
 
--- whatever event comes next, the model refuses it with the account's number, and is then what the account says
-pub record AsTold (h : Past) (e : Event) : Type 0 where
-  pub number : stepOf (modelOf h) e .number ≡ refusalOf h e
-  pub model : stepOf (modelOf h) e .model ≡ modelOf (nextOf h e)
-  pub lawful : Lawful (nextOf h e)
-
+-- whatever event comes next, a later power-on too: the model refuses it with the account's number, and what it comes to is what the account says, all of it
 abbrev pub RefusalIsStep : Type 0
-RefusalIsStep = (h : Past) → Lawful h → (e : Event) → AsTold h e
+RefusalIsStep = (h : Past) → Lawful h → (e : Event) → stepOf (modelOf h) e .number ≡ refusalOf h e
+
+abbrev pub OutcomeIsStep : Type 0
+OutcomeIsStep = (h : Past) → Lawful h → (e : Event) → stepOf (modelOf h) e ≡ outcomeOf h e
 
 -- the account's phases keep its rule, and no others do
 abbrev pub PhaseKeepsRule : Type 0

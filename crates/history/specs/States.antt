@@ -1,7 +1,10 @@
--- The model's state as the account has it: each field is what the account says of the run.
+-- The model's state as the account has it, each field what the account says of the run; and what an event comes to.
 use Prim.Native.Nat.{ℕ, _*_, min}
+use mathlib.Core.Bool.{Bool, false}
 use lib.Dec.{eqb}
+use Rattle.base.specs.Pick.{pick}
 use Rattle.base.specs.Volts.{packOf}
+use Rattle.parts.specs.Edges.{noFlags}
 use Rattle.parts.specs.declared.cycle.Cycle.{Cycle}
 use Rattle.parts.specs.declared.flags.Flags.{Flags}
 use Rattle.parts.specs.declared.latches.Latches.{Latches}
@@ -12,14 +15,15 @@ use Rattle.parts.specs.declared.state.State.{State}
 use Rattle.parts.specs.declared.state.Model.{Model}
 use Rattle.parts.specs.declared.state.Model.the-variants.{Off, On}
 use Rattle.parts.specs.declared.watchdog.Watchdog.{Watchdog}
+use Rattle.event.specs.declared.Event.{Event}
+use Rattle.moves.specs.Plain.{Outcome, refusedWith}
 use Rattle.history.specs.History.{Run}
 use Rattle.history.specs.Held.{profileOf, sampleOf, unserved, vchg, cell, ichg, overridden, cellsOf, byteOf}
 use Rattle.history.specs.Valued.{settingOf}
 use Rattle.history.specs.Judged.{inputOk, inputOver, short, low, packOver, bandAt}
 use Rattle.history.specs.Cycles.{trickle, precharge, fast, isDone, timeIn, phaseAt}
-use Rattle.history.specs.Flagged as flag
-use Rattle.history.specs.Flagged.{flagged}
-use Rattle.history.specs.Refused.{Past, none, some}
+use Rattle.history.specs.Flagged.{flagsBy, flagged, handedBack, pulsed}
+use Rattle.history.specs.Refused.{Past, none, some, refusalOf, nextOf}
 
 -- settings of these numbers
 abbrev pub numbered : (ℕ → ℕ) → Settings
@@ -69,20 +73,7 @@ module _ (P : Run → Phase) where
   cycleAt r = record { trickle = timeIn P trickle r; precharge = timeIn P precharge r; fast = timeIn P fast r; done = isDone P r }
 
   unfoldable pub flagsAt : Run → Flags
-  flagsAt r = record {
-    good = flagged P flag.good r;
-    lost = flagged P flag.lost r;
-    iindpm = flagged P flag.iindpm r;
-    vindpm = flagged P flag.vindpm r;
-    thermal = flagged P flag.thermal r;
-    expired = flagged P flag.expiry r;
-    phase = flagged P flag.phase r;
-    band = flagged P flag.band r;
-    inputover = flagged P flag.inputover r;
-    shutdown = flagged P flag.shutdown r;
-    packover = flagged P flag.packover r;
-    limit = flagged P flag.limit r;
-  }
+  flagsAt r = flagsBy (λ k. flagged P k r)
 
   unfoldable pub stateBy : Run → State
   stateBy r = record {
@@ -101,7 +92,26 @@ module _ (P : Run → Phase) where
 abbrev pub stateOf : Run → State
 stateOf = stateBy phaseAt
 
--- and the model after what has come before
+-- the model after what has come before
 abbrev pub modelOf : Past → Model
 modelOf none = Off
 modelOf (some r) = On (stateOf r)
+
+-- whether its last event pulsed, and the flags that it handed back
+abbrev pub pulseAfter : Past → Bool
+pulseAfter none = false
+pulseAfter (some r) = pulsed phaseAt r
+
+abbrev pub handedAfter : Past → Flags
+handedAfter none = noFlags
+handedAfter (some r) = flagsBy (λ k. handedBack phaseAt k r)
+
+-- what an event comes to: "A refusal returns its number, place and the old state."
+abbrev pub comesTo : ℕ → Past → Past → Outcome
+comesTo refusal before after =
+    pick (eqb refusal 0)
+    (record { number = 0; place = 0; model = modelOf after; pulse = pulseAfter after; handed = handedAfter after })
+    (refusedWith refusal (modelOf before))
+
+unfoldable pub outcomeOf : Past → Event → Outcome
+outcomeOf h e = comesTo (refusalOf h e) h (nextOf h e)
