@@ -10,3 +10,5 @@ mod Found
 mod Judging
 pub mod Settling
 mod Raising
+mod Starting
+mod Powering
