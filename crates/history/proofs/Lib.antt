@@ -12,3 +12,4 @@ pub mod Settling
 mod Raising
 mod Starting
 mod Powering
+mod Stepping
