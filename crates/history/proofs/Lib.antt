@@ -13,3 +13,4 @@ mod Raising
 mod Starting
 mod Powering
 mod Stepping
+pub mod Agreeing
