@@ -14,3 +14,4 @@ mod Starting
 mod Powering
 mod Stepping
 pub mod Agreeing
+pub mod Logging
