@@ -1,5 +1,4 @@
 -- The laws of the crate `history`.
-mod Rows
 pub mod Past
 mod Rule
 mod Choices
