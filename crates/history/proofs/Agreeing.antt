@@ -1,7 +1,7 @@
 -- After every run of accepted events the model is the account's, and whatever comes next comes to what the account says.
 use Prim.Native.Nat.{ℕ}
-use mathlib.Core.Path.{_≡_, refl, sym, ap, _∙_, subst}
-use mathlib.Core.Bool.{Bool, true, false, not, true≢false}
+use mathlib.Core.Path.{_≡_, refl, sym, ap, _∙_}
+use mathlib.Core.Bool.{Bool, true, false, true≢false}
 use lib.Dec.{eqb}
 use borrow.Author.Tests.{eqb-true}
 use Rattle.base.specs.Pick.{pick}
@@ -11,7 +11,7 @@ use Rattle.parts.specs.declared.state.Model.the-variants.{Off, On}
 use Rattle.valid.specs.Holds.{profileOk, stateOk}
 use Rattle.event.specs.declared.Event.{Event}
 use Rattle.event.specs.declared.Event.the-variants.{PowerOn, Set, Write, TakeFlags, Observe, Service, Reset}
-use Rattle.moves.specs.Plain.{Outcome, refusedWith, powerOnOf}
+use Rattle.moves.specs.Plain.{Outcome, powerOnOf}
 use Rattle.charger.specs.Steps.{firstOf, movedOf, modelOk, stepOf}
 use Rattle.charger.proofs.Keeps.{accepted-passes}
 use Rattle.history.specs.History.{Later, set, write, takeFlags, observe, service, reset, asEvent, Turn, opens, follows, turnOf, Run, powered, _▸_}

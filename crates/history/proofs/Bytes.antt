@@ -5,9 +5,8 @@ use mathlib.Core.Path.{_≡_, refl, ap, _∙_}
 use mathlib.Core.Bool.{Bool, true, false, not, _&&_}
 use lib.Dec.{eqb}
 use borrow.Author.Tests.{eqb-true}
-use Rattle.base.specs.Pick.{pick, bitOf}
+use Rattle.base.specs.Pick.{pick}
 use Rattle.parts.specs.declared.profile.Profile.{Profile}
-use Rattle.parts.specs.declared.registers.Registers.{Registers}
 use Rattle.parts.specs.declared.sample.Sample.{Sample}
 use Rattle.parts.specs.declared.state.State.{State}
 use Rattle.fields.specs.Rows.{fields, fieldsAt, takenOf, resetByte}
@@ -15,8 +14,8 @@ use Rattle.registers.specs.Reads.{byteAt}
 use Rattle.registers.specs.Writes.{countTaken, placed}
 use Rattle.registers.specs.Resets as registers
 use Rattle.charger.specs.Clock.{clearedIf}
-use Rattle.history.specs.History.{Run, powered, _▸_, set, write, takeFlags, observe, service, reset}
-use Rattle.history.specs.Held.{profileOf, expired, vchg, cell, ichg, overridden, takes, cellsOf, restored, byteOf}
+use Rattle.history.specs.History.{Run, _▸_, write, observe, reset}
+use Rattle.history.specs.Held.{expired, overridden, cellsOf, restored, byteOf}
 use Rattle.history.specs.States.{registersAt}
 use Rattle.history.proofs.Choices.{chosen-at}
 

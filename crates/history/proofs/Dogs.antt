@@ -2,17 +2,16 @@
 use Prim.Native.Nat.{ℕ, _+_, _*_, min}
 use native.Mathlib.Omega.{arith}
 use native.Mathlib.Nat.{add-zero}
-use mathlib.Core.Path.{_≡_, refl, sym, ap, _∙_}
+use mathlib.Core.Path.{_≡_, refl, ap}
 use mathlib.Core.Bool.{Bool, true, false, not, _&&_}
 use lib.Dec.{leb, eqb}
 use borrow.Author.Tests.{leb-true, leb-false, le-leb, lt-leb}
 use Rattle.base.specs.Stamps.{elapsedOf}
 use Rattle.parts.specs.declared.sample.Sample.{Sample}
-use Rattle.parts.specs.declared.watchdog.Watchdog.{Watchdog}
 use Rattle.edges.specs.Expiry.{expiredOf}
 use Rattle.charger.specs.Clock.{countedOf}
 use Rattle.start.specs.Values.{startWatchdog}
-use Rattle.history.specs.History.{Later, set, write, takeFlags, observe, service, reset, Run, powered, _▸_, sumAfter}
+use Rattle.history.specs.History.{Later, observe, Run, _▸_, sumAfter}
 use Rattle.history.specs.Held.{profileOf, sampleOf, elapsed, wasServed, unserved, expired}
 use Rattle.history.specs.States.{watchdogAt}
 

@@ -1,5 +1,5 @@
 -- What settling finds after an event: the state that each kind of event writes is the account's, but for what settling is still to judge.
-use Prim.Native.Nat.{ℕ, _+_, _*_, _%_}
+use Prim.Native.Nat.{ℕ, _*_, _%_}
 use native.Mathlib.Nat.{add-zero}
 use mathlib.Core.Path.{_≡_, refl, sym, ap, _∙_}
 use mathlib.Core.Bool.{Bool, true, false, not, _&&_}
@@ -21,7 +21,7 @@ use Rattle.registers.specs.Resets.{resetOf}
 use Rattle.charger.specs.Clock as clock
 use Rattle.charger.specs.Clock.{timesOf, countedOf, clearedIf, observedOf}
 use Rattle.moves.specs.Plain.{withSettings, serviced}
-use Rattle.history.specs.History.{Later, set, write, takeFlags, observe, service, reset, Run, powered, _▸_}
+use Rattle.history.specs.History.{Later, set, write, takeFlags, observe, service, reset, Run, _▸_}
 use Rattle.history.specs.Held.{profileOf, sampleOf, elapsed, wasReset, wasServed, expired, overridden, takes, cellsOf, byteOf}
 use Rattle.history.specs.Valued.{givenBy, settingOf}
 use Rattle.history.specs.Judged.{bandAt}

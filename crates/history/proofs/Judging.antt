@@ -1,11 +1,10 @@
 -- What settling judges of what it finds after an event: settings, comparators, band and tests are the account's.
-use Prim.Native.Nat.{ℕ, _-_}
-use mathlib.Core.Path.{_≡_, refl, sym, ap, _∙_}
-use mathlib.Core.Bool.{Bool, true, false, not, _&&_, _||_, and-false}
+use Prim.Native.Nat.{_-_}
+use mathlib.Core.Path.{_≡_, refl, ap, _∙_}
+use mathlib.Core.Bool.{Bool, true, false, not, _&&_, and-false}
 use lib.Dec.{leb, eqb}
 use borrow.Author.Tests.{eqb-true}
-use Rattle.base.specs.Units.{inPack, lessOf, below, belowShare, within}
-use Rattle.base.specs.declared.units.CellMv.{CellMv}
+use Rattle.base.specs.Units.{inPack, lessOf, below, belowShare}
 use Rattle.parts.specs.Numbers.{phaseNumber}
 use Rattle.parts.specs.declared.band.Band.{Band}
 use Rattle.parts.specs.declared.band.Band.the-variants.{Normal, Cold, Cool, Warm, Hot}
@@ -17,7 +16,6 @@ use Rattle.bands.specs.Effect as effect
 use Rattle.bands.specs.Effect.{suspendsOf, cutOf}
 use Rattle.levels.specs.Clamps.{faultOf, packClampOf, baseOf}
 use Rattle.levels.specs.Comparators.{shortOf, lowOf, packOverOf, latchesOf}
-use Rattle.levels.specs.Comparators as levels
 use Rattle.levels.specs.Voltage.{chargeVoltageOf, taperOf, belowRecharge}
 use Rattle.sense.specs.Ending.{endingOf}
 use Rattle.sense.specs.Limits.{reachedOf}

@@ -3,15 +3,11 @@ use Prim.Native.Nat.{ℕ, _*_, _-_, _<_, min}
 use native.Mathlib.Omega.{arith}
 use mathlib.Core.Path.{_≡_, refl, sym, ap, _∙_}
 use mathlib.Core.Bool.{Bool, true, false, not, _&&_, _||_}
-use lib.Dec.{leb}
 use Rattle.base.specs.Units.{inPack, below, belowShare}
 use Rattle.parts.specs.Edges.{noFlags, powerOnFlags}
-use Rattle.parts.specs.declared.band.Band.{Band}
 use Rattle.parts.specs.declared.band.Band.the-variants.{Normal}
-use Rattle.parts.specs.declared.latches.Latches.{Latches}
 use Rattle.parts.specs.declared.phase.Phase.the-variants.{Idle}
 use Rattle.parts.specs.declared.profile.Profile.{Profile}
-use Rattle.parts.specs.declared.settings.Settings.{Settings}
 use Rattle.parts.specs.declared.state.State.{State}
 use Rattle.start.specs.Values.{startSettings, startRegisters, startLatches, startCycle, startWatchdog, startSample, startOf}
 use Rattle.settings.specs.Numbered.{settingNumbers, heldOf}
@@ -22,7 +18,7 @@ use Rattle.levels.specs.Clamps.{faultOf, packClampOf, baseOf}
 use Rattle.levels.specs.Comparators.{shortReturnsAt, shortEndsAt, shortOf, lowOf, packOverOf, latchesOf}
 use Rattle.sense.specs.Permission.{permittedOf}
 use Rattle.phases.specs.Cycles.{cycleOf}
-use Rattle.phases.specs.Order.{judgedOf, restartsOf, clearsOf, endsOf, phaseOf}
+use Rattle.phases.specs.Order.{judgedOf, clearsOf, endsOf, phaseOf}
 use Rattle.judge.specs.Gather.{testsOf}
 use Rattle.judge.specs.Settle.{storedOf, forcedOf, settledOf, settleOf}
 use Rattle.moves.specs.Finish.{withFlags}

@@ -1,8 +1,6 @@
 -- The flags of a run: the edges of an event are the account's, and so are the flags that are held after it.
-use Prim.Native.Nat.{ℕ}
-use mathlib.Core.Path.{_≡_, refl, sym, ap, _∙_}
-use mathlib.Core.Bool.{Bool, true, false, not, _&&_, _||_}
-use lib.Dec.{eqb}
+use mathlib.Core.Path.{_≡_, refl, ap, _∙_}
+use mathlib.Core.Bool.{false, not, _&&_, _||_}
 use Rattle.parts.specs.Edges.{merged, pulseOf, noFlags}
 use Rattle.parts.specs.declared.flags.Flags.{Flags}
 use Rattle.parts.specs.declared.state.State.{State}
@@ -11,17 +9,17 @@ use Rattle.edges.specs.Edges.{expiresOf, reachesOf, phaseChanges, bandChanges, 
 use Rattle.judge.specs.Settle.{settleOf}
 use Rattle.moves.specs.Finish.{withFlags, finishOf}
 use Rattle.moves.specs.declared.finish.Finished.{Finished}
-use Rattle.history.specs.History.{Later, takeFlags, Run, powered, _▸_, since}
-use Rattle.history.specs.Held.{profileOf, sampleOf, wasObserved, expired}
+use Rattle.history.specs.History.{Later, takeFlags, Run, _▸_, since}
+use Rattle.history.specs.Held.{wasObserved, expired}
 use Rattle.history.specs.Valued.{settingOf}
-use Rattle.history.specs.Judged.{inputOk, inputOver, inputGood, packOver, bandAt}
+use Rattle.history.specs.Judged.{inputGood}
 use Rattle.history.specs.Cycles.{limitReached, phaseAt}
 use Rattle.history.specs.Flagged as flag
 use Rattle.history.specs.Flagged.{Flag, flagsBy, wasTaken, edge, flagged, handedBack, pulsed}
-use Rattle.history.specs.States.{settingsAt, latchesAt, cycleAt, watchdogAt, flagsAt, stateBy, stateOf}
+use Rattle.history.specs.States.{settingsAt, latchesAt, cycleAt, flagsAt, stateBy, stateOf}
 use Rattle.history.proofs.Choices.{or-swap}
 use Rattle.history.proofs.Dogs.{expired-is}
-use Rattle.history.proofs.Found.{writtenBy, found, written-is}
+use Rattle.history.proofs.Found.{writtenBy, written-is}
 use Rattle.history.proofs.Settling.{flaggedWith, settle-is}
 
 module _ (r : Run) (e : Later) where

@@ -6,7 +6,7 @@ use Rattle.base.specs.Pick.{pick}
 use Rattle.parts.specs.Numbers.{phaseNumber}
 use Rattle.parts.specs.declared.phase.Phase.{Phase}
 use Rattle.parts.specs.declared.phase.Phase.the-variants.{Idle, Trickle, Precharge, Fast, Taper, Done, Suspended, Fault}
-use Rattle.phases.specs.Order.{isTaper, judgedOf, restartsOf, clearsOf, endsOf, phaseOf}
+use Rattle.phases.specs.Order.{judgedOf, restartsOf, clearsOf, endsOf, phaseOf}
 use Rattle.phases.specs.declared.tests.Tests.{Tests}
 
 -- the account's list

@@ -1,15 +1,11 @@
 -- After an event and its settling the state is the account's, but for the flags; and where a cycle restarts.
 use Prim.Native.Nat.{ℕ}
 use mathlib.Core.Path.{_≡_, refl, sym, ap, _∙_}
-use mathlib.Core.Bool.{Bool, true, false, not, _&&_, _||_}
+use mathlib.Core.Bool.{false, not, _&&_, _||_}
 use lib.Dec.{leb, ltb, eqb}
 use Rattle.base.specs.Pick.{pick}
 use Rattle.parts.specs.Numbers.{phaseNumber}
-use Rattle.parts.specs.declared.band.Band.{Band}
-use Rattle.parts.specs.declared.cycle.Cycle.{Cycle}
 use Rattle.parts.specs.declared.flags.Flags.{Flags}
-use Rattle.parts.specs.declared.latches.Latches.{Latches}
-use Rattle.parts.specs.declared.phase.Phase.{Phase}
 use Rattle.parts.specs.declared.profile.Profile.{Profile}
 use Rattle.parts.specs.declared.state.State.{State}
 use Rattle.bands.specs.Thresholds.{bandOf}
@@ -18,7 +14,7 @@ use Rattle.phases.specs.Cycles.{cycleOf}
 use Rattle.phases.specs.Order.{clearsOf, endsOf, phaseOf}
 use Rattle.phases.specs.declared.tests.Tests.{Tests}
 use Rattle.judge.specs.Gather.{testsOf}
-use Rattle.judge.specs.Settle.{forcedOf, settledOf, settleOf}
+use Rattle.judge.specs.Settle.{settledOf, settleOf}
 use Rattle.history.specs.History.{Later, Run, powered, _▸_, since, sumAfter}
 use Rattle.history.specs.Held.{profileOf, sampleOf, wasObserved, wasReset}
 use Rattle.history.specs.Judged.{inputOk, inputGood, bandAt, permitted}
@@ -28,7 +24,7 @@ use Rattle.history.specs.Runs.{RestartsExactly}
 use Rattle.history.proofs.Past.{phase-keeps-rule}
 use Rattle.history.proofs.Rule.{listed, Same, same-rule, restart-rule}
 use Rattle.history.proofs.Choices.{middle, cleared-or}
-use Rattle.history.proofs.Found.{changed, cycleFound, found}
+use Rattle.history.proofs.Found.{cycleFound, found}
 use Rattle.history.proofs.Judging.{ready, forced-is, latches-are, band-is, testsAt, tests-are, not-both}
 
 -- a run's state with these flags

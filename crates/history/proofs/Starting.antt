@@ -1,15 +1,14 @@
 -- At power-on, where no pin has a fault, a pack of no volts is below every point.
-use Prim.Native.Nat.{ℕ, zero, suc, _+_, _*_, _-_, _%_, _<_, _≤_, min}
+use Prim.Native.Nat.{ℕ, zero, suc, _*_, _%_, _<_, _≤_}
 use native.Mathlib.Omega.{arith}
 use native.Mathlib.Nat.{mul-pos}
-use mathlib.Core.Path.{_≡_, refl, sym, ap, _∙_, subst}
-use mathlib.Core.Bool.{Bool, true, false, not, _&&_, _||_, true≢false}
-use mathlib.Core.List.{List, [], _∷_}
-use lib.ListN.{getD}
-use lib.Dec.{T, leb, ltb, eqb, ltb→lt}
+use mathlib.Core.Path.{_≡_, refl}
+use mathlib.Core.Bool.{Bool, true, false, _&&_, _||_, true≢false}
+use mathlib.Core.List.{[], _∷_}
+use lib.Dec.{leb, ltb, eqb, ltb→lt}
 use borrow.Author.Tests.{lt-ltb, ne-eqb}
 use Rattle.base.specs.Pick.{pick}
-use Rattle.base.specs.Units.{inPack, lowerOf, below, belowShare}
+use Rattle.base.specs.Units.{inPack, below, belowShare}
 use Rattle.base.specs.Volts.{packOf}
 use Rattle.base.specs.declared.units.CellMv.{CellMv}
 use Rattle.base.specs.declared.units.PackMv.{PackMv}
@@ -20,11 +19,11 @@ use Rattle.parts.specs.declared.profile.Profile.{Profile}
 use Rattle.start.specs.Values.{startVreg, startSettings}
 use Rattle.settings.specs.Numbered.{settingNumbers, heldOf}
 use Rattle.valid.specs.Holds.{profileOk}
-use Rattle.levels.specs.Comparators.{shortReturnsAt, shortEndsAt}
-use Rattle.history.specs.History.{Run, powered}
+use Rattle.levels.specs.Comparators.{shortReturnsAt}
+use Rattle.history.specs.History.{powered}
 use Rattle.history.specs.Held.{profileOf, sampleOf, overridden, cellsOf}
 use Rattle.history.specs.Valued.{pinFault, startValue, settingOf}
-use Rattle.history.specs.Judged.{vbat, packClamp, baseAt, lowEnds}
+use Rattle.history.specs.Judged.{vbat, packClamp, baseAt}
 
 nonzero : (n : ℕ) → eqb n 0 ≡ false → 0 < n
 nonzero zero h = absurd (true≢false h)

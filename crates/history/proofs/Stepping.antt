@@ -8,24 +8,21 @@ use Rattle.base.specs.Told as told
 use Rattle.parts.specs.Edges.{noFlags}
 use Rattle.parts.specs.declared.profile.Profile.{Profile}
 use Rattle.parts.specs.declared.state.State.{State}
-use Rattle.parts.specs.declared.state.Model.{Model}
-use Rattle.parts.specs.declared.state.Model.the-variants.{Off, On}
+use Rattle.parts.specs.declared.state.Model.the-variants.{On}
 use Rattle.fields.specs.Rows.{frequencyOk}
 use Rattle.settings.specs.Ranges.{knownSetting, mayHold}
 use Rattle.valid.specs.Holds.{profileOk, sampleOk, stateOk}
 use Rattle.registers.specs.Writes.{writeOf}
-use Rattle.event.specs.declared.Event.{Event}
-use Rattle.event.specs.declared.Event.the-variants.{PowerOn}
 use Rattle.moves.specs.Finish.{withFlags, finishOf}
 use Rattle.moves.specs.declared.finish.Finished.{Finished}
-use Rattle.moves.specs.Plain.{Outcome, refusedWith, acceptedAs, afterWrite, poweredOf, powerOnOf, setOf, writeEventOf, takeFlagsOf, serviceOf, resetEventOf}
+use Rattle.moves.specs.Plain.{Outcome, refusedWith, acceptedAs, afterWrite, poweredOf, setOf, writeEventOf, takeFlagsOf, serviceOf, resetEventOf}
 use Rattle.charger.specs.Steps.{observeOf, movedOf, stepOf}
 use Rattle.history.specs.History.{Later, set, write, takeFlags, observe, service, reset, asEvent, Run, powered, _▸_}
-use Rattle.history.specs.Held.{sampleOf, elapsed, wasObserved}
+use Rattle.history.specs.Held.{elapsed, wasObserved}
 use Rattle.history.specs.Cycles.{phaseAt}
-use Rattle.history.specs.Flagged.{flagsBy, wasTaken, handedBack, pulsed}
+use Rattle.history.specs.Flagged.{wasTaken, handedBack, pulsed}
 use Rattle.history.specs.Refused.{refusalIn, Past, none, some}
-use Rattle.history.specs.States.{flagsAt, stateBy, stateOf, modelOf, comesTo}
+use Rattle.history.specs.States.{stateBy, stateOf, modelOf, comesTo}
 use Rattle.history.proofs.Found.{writtenBy}
 use Rattle.history.proofs.Powering.{powered-is}
 use Rattle.history.proofs.Raising.{finish-is, kept-is, hands-none, taken-is, hands-held}

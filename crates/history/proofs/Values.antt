@@ -1,6 +1,6 @@
 -- The settings of a run: what each kind of event stores is what the account says that it gives, number by number.
-use Prim.Native.Nat.{ℕ, _%_}
-use mathlib.Core.Path.{_≡_, refl, ap}
+use Prim.Native.Nat.{ℕ}
+use mathlib.Core.Path.{_≡_, refl}
 use mathlib.Core.Bool.{Bool, true, false, not, _&&_}
 use lib.Dec.{eqb}
 use Rattle.base.specs.Pick.{pick}
@@ -9,7 +9,6 @@ use Rattle.base.specs.Volts.{packOf, millivoltsOf}
 use Rattle.base.specs.declared.units.PackMv.{PackMv}
 use Rattle.parts.specs.Pins.{vchgOf}
 use Rattle.parts.specs.declared.profile.Profile.{Profile}
-use Rattle.parts.specs.declared.settings.Settings.{Settings}
 use Rattle.start.specs.Values.{startSettings}
 use Rattle.settings.specs.Numbered.{settingNumbers, heldOf, storeOf}
 use Rattle.registers.specs.Writes as registers

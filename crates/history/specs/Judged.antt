@@ -1,7 +1,7 @@
 -- The account, what settling judges of a moment before any phase: clamps, base, comparators, band, permission.
-use Prim.Native.Nat.{ℕ, _-_, _*_, _/_, _%_, min}
+use Prim.Native.Nat.{ℕ, _-_, _/_, _%_}
 use mathlib.Core.Bool.{Bool, true, false, not, _&&_, _||_}
-use lib.Dec.{leb, ltb, eqb}
+use lib.Dec.{leb, eqb}
 use lib.IntN.{pos}
 use lib.Signed.{ltZ}
 use Rattle.base.specs.Pick.{pick}

@@ -1,8 +1,8 @@
 -- What is proved of every run and of every log.
 use Prim.Native.Nat.{ℕ, suc}
 use mathlib.Core.Path.{_≡_}
-use mathlib.Core.Bool.{Bool, not, _&&_}
-use mathlib.Core.List.{List, [], _∷_}
+use mathlib.Core.Bool.{not, _&&_}
+use mathlib.Core.List.{List}
 use lib.ListN.{length}
 use Rattle.parts.specs.declared.phase.Phase.{Phase}
 use Rattle.parts.specs.declared.state.Model.{Model}
@@ -10,10 +10,9 @@ use Rattle.parts.specs.declared.state.Model.the-variants.{Off, On}
 use Rattle.event.specs.declared.Event.{Event}
 use Rattle.event.specs.declared.Event.the-variants.{PowerOn}
 use Rattle.charger.specs.Steps.{stepOf}
-use Rattle.charger.specs.Pages.{pageOf, wholeOf}
-use Rattle.charger.specs.Walks.{startWalk}
+use Rattle.charger.specs.Pages.{wholeOf}
 use Rattle.charger.specs.Wholes.{eventsOf}
-use Rattle.history.specs.History.{Later, asEvent, Run, powered, _▸_}
+use Rattle.history.specs.History.{asEvent, Run, powered, _▸_}
 use Rattle.history.specs.Judged.{permitted, suspended, rechargeDue}
 use Rattle.history.specs.Cycles.{fault, wasDone, restarts, Keeps, phaseAt}
 use Rattle.history.specs.Refused.{Accepted, Past, none, some, refusalOf, pastOf}
