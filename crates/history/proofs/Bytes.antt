@@ -48,11 +48,14 @@ module _ (s : State) (byte : ℕ) where
   abbrev left : ℕ → ℕ
   left address = takenOf (countTaken (s .registers) address byte) address (byteAt s address) byte
 
-  pub count-at : (address : ℕ) → pick (countTaken (s .registers) address byte) (left address % 8) (s .registers .cells) ≡ pick (countTaken (s .registers) address byte) (byte % 8) (s .registers .cells)
+  abbrev taken : ℕ → Bool
+  taken address = countTaken (s .registers) address byte
+
+  count-at : (address : ℕ) → pick (taken address) (left address % 8) (s .registers .cells) ≡ pick (taken address) (byte % 8) (s .registers .cells)
   count-at address = go (eqb address 0x1B) refl
     where
-      go : (b : Bool) → eqb address 0x1B ≡ b → pick (countTaken (s .registers) address byte) (left address % 8) (s .registers .cells) ≡ pick (countTaken (s .registers) address byte) (byte % 8) (s .registers .cells)
-      go true h = rw (eqb-true address 0x1B h) (new-count (countTaken (s .registers) 0x1B byte) (byteAt s 0x1B) byte (s .registers .cells))
+      go : (b : Bool) → eqb address 0x1B ≡ b → pick (taken address) (left address % 8) (s .registers .cells) ≡ pick (taken address) (byte % 8) (s .registers .cells)
+      go true h = rw (eqb-true address 0x1B h) (new-count (taken 0x1B) (byteAt s 0x1B) byte (s .registers .cells))
       go false h = rw h
 
   bit-at : (at weight : ℕ) (old : Bool) → left at / weight % 2 ≡ byte / weight % 2 → (address : ℕ)

@@ -38,7 +38,7 @@ unitsOf old ms = pick (regulatedOf old) ms (ms * 2)
 abbrev pub reaches : ℕ → ℕ → Bool
 reaches limit units = not (eqb limit 0) && leb (limit * 2000) units
 
--- From here on P is the phase at each moment. What is said of a run r ▸ e reads P at r and before, but for what begins at r ▸ e by its own phase.
+-- From here on P is the phase at each moment. The rule for the phase after r ▸ e, `phaseBy`, reads P at r and before alone.
 module _ (P : Run → Phase) where
   abbrev pub numberAt : Run → ℕ
   numberAt r = phaseNumber (P r)

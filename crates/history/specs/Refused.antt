@@ -46,7 +46,7 @@ refusalBy (some r) (follows e) = refusalIn r e
 unfoldable pub refusalOf : Past → Event → ℕ
 refusalOf h e = refusalBy h (turnOf e)
 
--- "A refused power-on is none": a refused event leaves what has come before
+-- an accepted power-on begins a new run, and a refused event leaves what has come before
 abbrev pub nextBy : Past → Turn → Past
 nextBy h (opens p) = pick (profileOk p) (some (powered p)) h
 nextBy none (follows e) = none

@@ -1,7 +1,7 @@
 -- What is proved of every run and of every log.
 use Prim.Native.Nat.{ℕ, suc}
 use mathlib.Core.Path.{_≡_}
-use mathlib.Core.Bool.{not, _&&_}
+use mathlib.Core.Bool.{Bool, not, _&&_}
 use mathlib.Core.List.{List}
 use lib.ListN.{length}
 use Rattle.parts.specs.declared.phase.Phase.{Phase}
@@ -46,10 +46,13 @@ PhaseKeepsRule = Keeps phaseAt
 abbrev pub PhaseOnlyOne : Type 0
 PhaseOnlyOne = (P : Run → Phase) → Keeps P → (r : Run) → P r ≡ phaseAt r
 
--- "When phase 5 would hold and VBAT is below [the recharge point], done and times clear": no permission, fault or suspension comes first
+-- "Phase, first that holds: 0 idle, no permission; 7 fault, ..; 6 suspended, ..; 5 done": whether phase 5 would hold
+abbrev pub fiveHolds : Run → Bool
+fiveHolds r = permitted r && not (fault phaseAt r) && not (suspended r) && wasDone phaseAt r
+
+-- "When phase 5 would hold and VBAT is below [the recharge point], done and times clear and the later phases are judged."
 abbrev pub RestartsExactly : Type 0
-RestartsExactly =
-    (r : Run) → (permitted r && restarts phaseAt r) ≡ (permitted r && not (fault phaseAt r) && not (suspended r) && wasDone phaseAt r && rechargeDue r)
+RestartsExactly = (r : Run) → (permitted r && restarts phaseAt r) ≡ (fiveHolds r && rechargeDue r)
 
 -- of a log: the accepted events since its latest accepted power-on
 abbrev pub logged : List ℕ → Past
