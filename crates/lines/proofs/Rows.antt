@@ -3,7 +3,7 @@ use Prim.Native.Nat.{ℕ}
 use mathlib.Core.Path.{_≡_, refl}
 use mathlib.Core.List.{List, [], _∷_}
 use Rattle.lines.specs.Decimal.{decimalBy, decimal}
-use Rattle.lines.specs.Text.{lineText, endText}
+use Rattle.lines.specs.Text.{lineText, headedText, endText}
 
 -- "1 1 0 0 0 0 3300 1 32"
 pub first-line : lineText (1 ∷ 1 ∷ 0 ∷ 0 ∷ 0 ∷ 0 ∷ 3300 ∷ 1 ∷ 32 ∷ []) ≡ 49 ∷ 32 ∷ 49 ∷ 32 ∷ 48 ∷ 32 ∷ 48 ∷ 32 ∷ 48 ∷ 32 ∷ 48 ∷ 32 ∷ 51 ∷ 51 ∷ 48 ∷ 48 ∷ 32 ∷ 49 ∷ 32 ∷ 51 ∷ 50 ∷ 10 ∷ []
@@ -17,12 +17,12 @@ second-line = refl
 
 -- "end 2 0 28"
 pub last-line : endText (2 ∷ 0 ∷ 28 ∷ []) ≡ 101 ∷ 110 ∷ 100 ∷ 32 ∷ 50 ∷ 32 ∷ 48 ∷ 32 ∷ 50 ∷ 56 ∷ 10 ∷ []
-unfolding endText lineText decimal decimalBy
+unfolding endText headedText lineText decimal decimalBy
 last-line = refl
 
 -- "For 13 it prints only `end 0 13 0`."
 pub too-long : endText (0 ∷ 13 ∷ 0 ∷ []) ≡ 101 ∷ 110 ∷ 100 ∷ 32 ∷ 48 ∷ 32 ∷ 49 ∷ 51 ∷ 32 ∷ 48 ∷ 10 ∷ []
-unfolding endText lineText decimal decimalBy
+unfolding endText headedText lineText decimal decimalBy
 too-long = refl
 
 -- the largest number that is printed

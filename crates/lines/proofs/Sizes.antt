@@ -4,7 +4,7 @@ use mathlib.Core.Path.{_≡_}
 use mathlib.Core.List.{List, [], _∷_, _++_}
 use native.Mathlib.Omega.{arith}
 use lib.ListN.{length, getD, length-append}
-use Rattle.lines.specs.Text.{lineText, endText}
+use Rattle.lines.specs.Text.{lineText, headedText, endText}
 use Rattle.lines.proofs.Decimals.{ten-at-most}
 
 -- ten digits and the byte after them
@@ -14,5 +14,5 @@ line-at-most [] h = omega arith
 line-at-most (n ∷ ns) h = simp length-append (omega (arith, ten-at-most n (h 0), line-at-most ns (λ i. h (suc i))))
 
 pub end-at-most : (ns : List ℕ) → ((i : ℕ) → getD ns i 0 < 2 ^ 32) → length (endText ns) ≤ 4 + 11 * length ns
-unfolding endText
+unfolding endText headedText
 end-at-most ns h = omega (arith, line-at-most ns h)

@@ -13,9 +13,13 @@ unfoldable pub lineText : List ℕ → List ℕ
 lineText [] = []
 lineText (n ∷ more) = decimal n ++ (after more ∷ lineText more)
 
+-- a line that a word begins
+unfoldable pub headedText : List ℕ → List ℕ → List ℕ
+headedText word numbers = word ++ lineText numbers
+
 -- "Last: `end`, records read, code (0 or 1-4), offset of the log's end or the unreadable record."
 abbrev pub endWord : List ℕ
 endWord = 101 ∷ 110 ∷ 100 ∷ 32 ∷ []
 
 unfoldable pub endText : List ℕ → List ℕ
-endText numbers = endWord ++ lineText numbers
+endText numbers = headedText endWord numbers

@@ -1,8 +1,9 @@
-// The lines that runlog prints, each written whole at the start of a lent part or not at all.
+// The lines that the programs print, each written whole at the start of a lent part or not at all.
 ghost use mathlib.Core.Path.{_≡_};
+ghost use mathlib.Core.List.{[], _∷_};
 ghost use Prim.Native.Nat.{_≤_};
 ghost use lib.ListN.{length};
-ghost use Rattle.lines.specs.Text.{lineText, endWord, endText};
+ghost use Rattle.lines.specs.Text.{lineText, headedText, endText};
 ghost use Rattle.base.specs.Writing.{written, writtenTold, put};
 ghost use Rattle.lines.specs.Writing.{over};
 use crate::numbers;
@@ -35,29 +36,54 @@ pub fn line(out: &mut [u8], numbers: LineNumbers) -> Written
     whole(out, &numbers)
 }
 
-// Writes the last line's word and the space after it, in a part that has the room.
-fn put_word(out: &mut [u8])
-    requires { ⌜ 4 ≤ length (now out) ⌝ }
-    ensures { λ r. ⌜ now (out .exit) ≡ over endWord (now (out .entry)) ⌝ }
+// Writes a word at the start of a part that has the room.
+fn put_word(out: &mut [u8], word: &[u8])
+    requires { ⌜ length (now word) ≤ length (now out) ⌝ }
+    ensures { λ r. ⌜ now (out .exit) ≡ over (now (word .entry)) (now (out .entry)) ⌝ }
 {
-    out[0] = b'e';
-    out[1] = b'n';
-    out[2] = b'd';
-    out[3] = b' ';
+    let mut i: usize = 0;
+    while i < word.len() {
+        out[i] = word[i];
+        i += 1;
+    }
 }
 
-// The last line: its word, and a line of three numbers in the rest of the part.
-pub fn end(out: &mut [u8], numbers: EndNumbers) -> Written
-    ensures { λ r. ⌜ (writtenTold r ≡ written (endText numbers) (now (out .entry))) × (now (out .exit) ≡ put (endText numbers) (now (out .entry))) ⌝ }
+// A word, and a line of at most nine numbers in the rest of the part.
+fn headed(out: &mut [u8], word: &[u8], numbers: &[u32]) -> Written
+    requires { ⌜ length (now numbers) ≤ 9 ⌝ }
+    ensures { λ r. ⌜ (writtenTold r ≡ written (headedText (now (word .entry)) (now (numbers .entry))) (now (out .entry))) × (now (out .exit) ≡ put (headedText (now (word .entry)) (now (numbers .entry))) (now (out .entry))) ⌝ }
 {
-    if out.len() < 4 {
+    let start = word.len();
+    if out.len() < start {
         return Written::Refused(Refusal::NoRoom);
     }
-    match whole(&mut out[4..], &numbers) {
+    match whole(&mut out[start..], numbers) {
         Written::Count(bytes) => {
-            put_word(out);
-            Written::Count(bytes + 4)
+            put_word(out, word);
+            Written::Count(bytes + start)
         }
         Written::Refused(refusal) => Written::Refused(refusal),
     }
+}
+
+// A word and one number.
+pub fn one(out: &mut [u8], word: &[u8], number: u32) -> Written
+    ensures { λ r. ⌜ (writtenTold r ≡ written (headedText (now (word .entry)) (number ∷ [])) (now (out .entry))) × (now (out .exit) ≡ put (headedText (now (word .entry)) (number ∷ [])) (now (out .entry))) ⌝ }
+{
+    let numbers = [number];
+    headed(out, word, &numbers)
+}
+
+// A word and three numbers.
+pub fn three(out: &mut [u8], word: &[u8], numbers: EndNumbers) -> Written
+    ensures { λ r. ⌜ (writtenTold r ≡ written (headedText (now (word .entry)) numbers) (now (out .entry))) × (now (out .exit) ≡ put (headedText (now (word .entry)) numbers) (now (out .entry))) ⌝ }
+{
+    headed(out, word, &numbers)
+}
+
+// The last line.
+pub fn end(out: &mut [u8], numbers: EndNumbers) -> Written
+    ensures { λ r. ⌜ (writtenTold r ≡ written (endText numbers) (now (out .entry))) × (now (out .exit) ≡ put (endText numbers) (now (out .entry))) ⌝ }
+{
+    three(out, b"end ", numbers)
 }

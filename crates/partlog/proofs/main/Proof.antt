@@ -1,0 +1,43 @@
+-- `main` compares no more of each array than was read.
+use mathlib.Core.Path.{sym}
+use native.Mathlib.Omega.{arith}
+use lib.Seq.{length-take-le}
+use borrow.Author.Needs.{needs}
+use Rattle.partlog.proofs.main.Statement.{statement}
+use Rattle.partlog.proofs.main.Tie as tie
+
+slice-aggregate-compare : tie.Need-slice-aggregate-compare
+slice-aggregate-compare c = sym (length-take-le _ _ (omega arith))
+
+slice-aggregate-compare-2 : tie.Need-slice-aggregate-compare-2
+slice-aggregate-compare-2 c = sym (length-take-le _ _ (omega arith))
+
+pub main-spec : {M : Type 1} → statement M
+main-spec =
+    tie.close
+    (tie.spec
+    (λ c κs. tt)
+    (λ c. search needs)
+    (λ c κs. tt)
+    (λ c. tt)
+    (λ c. search needs)
+    (λ c κs. tt)
+    (λ c. search needs)
+    (λ c. search needs)
+    (λ c. tt)
+    (λ c. search needs)
+    (λ c κs. tt)
+    (λ c. search needs)
+    (λ c. search needs)
+    (λ c. tt)
+    (λ c κs. tt)
+    (λ c. tt)
+    (λ c κs. tt)
+    (λ c. tt)
+    (λ c. search needs)
+    slice-aggregate-compare
+    (λ c. search needs)
+    slice-aggregate-compare-2
+    (λ c κs. tt)
+    (λ c κs. tt)
+    (λ c. tt))
