@@ -1,5 +1,4 @@
 // Compares the two logs that its arguments name: prints `rest FIRST` or `rest SECOND` and an offset, or `refused`, a number, a record and an offset. What matters is in the crates below: main reads, compares and prints.
-use base::refusal::Refusal;
 use base::written::Written;
 use libc::STDERR_FILENO;
 use libc::STDOUT_FILENO;
@@ -65,13 +64,9 @@ fn main() {
     let Loaded::Bytes(m) = other else {
         return;
     };
-    if 65536 < n {
-        print_answer(Compared::Refused(Refusal::InputTooLong, 0, 0));
-        return;
+    if n <= 65537 {
+        if m <= 65537 {
+            print_answer(logs::compare_inputs(&first[..n], &second[..m]));
+        }
     }
-    if 65536 < m {
-        print_answer(Compared::Refused(Refusal::InputTooLong, 0, 0));
-        return;
-    }
-    print_answer(logs::compare(&first[..n], &second[..m]));
 }

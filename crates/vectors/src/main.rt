@@ -1,9 +1,12 @@
-// Runs each stored log record by record: `lines FILE` prints what runlog prints of it, `held FILE` what the model holds after each record once it is powered.
+// Runs each stored log record by record: `lines FILE` prints what runlog prints of it, `held FILE` what the model holds after each record once it is powered. Two files beside each other, `FILE FILE`, are compared: it prints what partlog prints.
 ghost use Prim.Native.Nat.{_≤_};
 
+mod files;
 mod held;
+mod pairs;
 mod say;
 
+use crate::files::Loaded;
 use base::refusal;
 use base::written::Written;
 use charger::walking;
@@ -88,32 +91,38 @@ fn run(lines: bool, log: &[u8]) {
     }
 }
 
-// Runs the file that an argument names, in the mode that the argument before it names.
-fn run_file(i: usize)
-    requires { ⌜ i ≤ 100000 ⌝ }
-{
-    let mut mode = io::buffer();
-    let mut path = io::buffer();
-    let word = os::arg(i, &mut mode);
-    let length = os::arg(i + 1, &mut path);
-    say::text(b"== ");
-    say::text(&mode[..word]);
-    say::text(b" ");
-    say::text(&path[..length]);
-    say::text(b"\n");
-    let fd = os::open_read(&path[..length]);
-    if fd < 0 {
-        os::fail(&path[..length]);
-        return;
-    }
+// Runs the stored log of a name.
+fn run_file(lines: bool, name: &[u8]) {
     let mut input = [0u8; 65537];
-    let n = io::read_full(fd, &mut input);
-    libc::close(fd);
+    let got = files::load(name, &mut input);
+    let Loaded::Bytes(n) = got else {
+        return;
+    };
     if 65536 < n {
         print_end(0, 13, 0);
         return;
     }
-    run(mode[0] == b'l', &input[..n]);
+    run(lines, &input[..n]);
+}
+
+// Runs what two arguments name: a mode and a file, or two files.
+fn run_words(i: usize)
+    requires { ⌜ i ≤ 100000 ⌝ }
+{
+    let mut word = io::buffer();
+    let mut name = io::buffer();
+    let letters = os::arg(i, &mut word);
+    let length = os::arg(i + 1, &mut name);
+    say::text(b"== ");
+    say::text(&word[..letters]);
+    say::text(b" ");
+    say::text(&name[..length]);
+    say::text(b"\n");
+    match word[0] {
+        b'l' => run_file(true, &name[..length]),
+        b'h' => run_file(false, &name[..length]),
+        _ => pairs::run(&word[..letters], &name[..length]),
+    }
 }
 
 // How many arguments there are, as far as they are taken.
@@ -128,7 +137,7 @@ fn main() {
     let count = arguments();
     let mut i: usize = 1;
     while i < count {
-        run_file(i);
+        run_words(i);
         i += 2;
     }
 }

@@ -6,11 +6,11 @@ use borrow.Author.Needs.{needs}
 use Rattle.partlog.proofs.main.Statement.{statement}
 use Rattle.partlog.proofs.main.Tie as tie
 
-slice-aggregate-compare : tie.Need-slice-aggregate-compare
-slice-aggregate-compare c = sym (length-take-le _ _ (omega arith))
+slice-aggregate-compare-inputs : tie.Need-slice-aggregate-compare-inputs
+slice-aggregate-compare-inputs c = sym (length-take-le _ _ (omega arith))
 
-slice-aggregate-compare-2 : tie.Need-slice-aggregate-compare-2
-slice-aggregate-compare-2 c = sym (length-take-le _ _ (omega arith))
+slice-aggregate-compare-inputs-2 : tie.Need-slice-aggregate-compare-inputs-2
+slice-aggregate-compare-inputs-2 c = sym (length-take-le _ _ (omega arith))
 
 pub main-spec : {M : Type 1} → statement M
 main-spec =
@@ -30,14 +30,12 @@ main-spec =
     (λ c. search needs)
     (λ c. search needs)
     (λ c. tt)
+    (λ c. search needs)
+    slice-aggregate-compare-inputs
+    (λ c. search needs)
+    slice-aggregate-compare-inputs-2
+    (λ c κs. tt)
     (λ c κs. tt)
     (λ c. tt)
-    (λ c κs. tt)
     (λ c. tt)
-    (λ c. search needs)
-    slice-aggregate-compare
-    (λ c. search needs)
-    slice-aggregate-compare-2
-    (λ c κs. tt)
-    (λ c κs. tt)
     (λ c. tt))

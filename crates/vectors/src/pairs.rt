@@ -1,0 +1,36 @@
+// Compares two stored logs, and prints what partlog prints of them.
+use crate::files;
+use crate::files::Loaded;
+use base::written::Written;
+use libc::STDOUT_FILENO;
+use logs::answer::Compared;
+
+fn print_answer(compared: Compared) {
+    let mut out = [0u8; 64];
+    let put = logs::text::answer(&mut out, compared);
+    let Written::Count(n) = put else {
+        return;
+    };
+    if n <= 64 {
+        io::write_all(STDOUT_FILENO, &out[..n]);
+    }
+}
+
+// Compares the two files of these names.
+pub(crate) fn run<'a>(name: &'a [u8], other: &'a [u8]) {
+    let mut first = [0u8; 65537];
+    let mut second = [0u8; 65537];
+    let one = files::load(name, &mut first);
+    let Loaded::Bytes(n) = one else {
+        return;
+    };
+    let two = files::load(other, &mut second);
+    let Loaded::Bytes(m) = two else {
+        return;
+    };
+    if n <= 65537 {
+        if m <= 65537 {
+            print_answer(logs::compare_inputs(&first[..n], &second[..m]));
+        }
+    }
+}
