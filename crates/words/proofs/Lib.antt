@@ -1,0 +1,4 @@
+-- The laws of the crate `words`.
+pub mod WordLaws
+pub mod Sames
+mod Turns

@@ -1,0 +1,50 @@
+-- Words and their bytes: lengths, and that words read back.
+use Prim.Native.Nat.{ℕ, zero, suc, _+_, _*_, _/_, _%_, _^_, _<_}
+use mathlib.Core.Path.{_≡_, refl, sym, ap, _∙_}
+use mathlib.Core.List.{List, [], _∷_, _++_, append-nil}
+use native.Mathlib.Omega.{arith}
+use native.Mathlib.Nat.{zero-add}
+use lib.ListN.{length, drop, drop-of-length-le}
+use lib.Seq.{sets, sets-eq}
+use Rattle.words.specs.Words.{wordBytes, bytesOf, wordAt, wordsIn}
+use Rattle.words.specs.Promises.{AllWords, ReadsBack}
+
+pub length-words : (k : ℕ) (s : List ℕ) → length (wordsIn k s) ≡ k
+unfolding wordsIn
+length-words zero s = refl
+length-words (suc k) s = ap suc (length-words k (drop 4 s))
+
+four-more : (n a b : ℕ) → a ≡ b * 4 → suc (suc (suc (suc a))) ≡ suc b * 4
+four-more n a b e = omega arith
+
+pub length-bytes : (ns : List ℕ) → length (bytesOf ns) ≡ length ns * 4
+unfolding bytesOf
+length-bytes [] = refl
+length-bytes (n ∷ ns) = four-more n (length (bytesOf ns)) (length ns) (length-bytes ns)
+
+-- a run of stores over a whole list is what was stored
+pub sets-whole : (xs l : List ℕ) → length xs ≡ length l → sets l 0 xs ≡ xs
+sets-whole xs l e =
+    sets-eq xs l 0 (omega arith) ∙ simp (zero-add, drop-of-length-le l {i = length xs} (omega arith)) (append-nil xs)
+
+-- a number is its four digits, each taken off the rest
+digits : (n q r s a b c : ℕ) → a + q * 256 ≡ n → b + r * 256 ≡ q → c + s * 256 ≡ r → a + b * 256 + c * 65536 + s * 16777216 ≡ n
+digits n q r s a b c x y z = omega arith
+
+digit : (n : ℕ) → n % 256 + n / 256 * 256 ≡ n
+digit n = omega arith
+
+first-back : (n : ℕ) (s : List ℕ) → n < 2 ^ 32 → wordAt (wordBytes n ++ s) 0 ≡ n
+unfolding wordAt
+first-back n s h =
+    let third : n / 65536 ≡ n / 256 / 256 = omega arith in
+    let last : n / 16777216 % 256 ≡ n / 256 / 256 / 256 = omega arith in
+    rw (third, last) (digits n (n / 256) (n / 256 / 256) (n / 256 / 256 / 256) (n % 256) (n / 256 % 256) (n / 256 / 256 % 256) (digit n) (digit (n / 256)) (digit (n / 256 / 256)))
+
+both-back : (n : ℕ) (ns s ms : List ℕ) → n < 2 ^ 32 → ms ≡ ns → wordAt (wordBytes n ++ s) 0 ∷ ms ≡ n ∷ ns
+both-back n ns s ms h e = ap (λ k. k ∷ ms) (first-back n s h) ∙ ap (λ l. n ∷ l) e
+
+pub reads-back : ReadsBack
+unfolding bytesOf wordsIn
+reads-back [] h = refl
+reads-back (n ∷ ns) h = both-back n ns (bytesOf ns) (wordsIn (length ns) (bytesOf ns)) (h .0) (reads-back ns (h .1))
