@@ -1,25 +1,16 @@
 -- What is promised of images: the types of the theorems that proofs/ proves.
-use Prim.Native.Nat.{ℕ, _<_}
+use Prim.Native.Nat.{ℕ}
 use mathlib.Core.Path.{_≡_}
 use mathlib.Core.List.{List}
 use lib.ListN.{length}
 use Rattle.base.specs.Told.{accepted}
 use Rattle.parts.specs.declared.state.Model.{Model}
 use Rattle.parts.specs.declared.state.Model.the-variants.{Off, On}
-use Rattle.parts.specs.declared.registers.Registers.{Registers}
 use Rattle.words.specs.Promises.{AllWords}
-use Rattle.image.specs.Numbers.{stateNumbers}
+use Rattle.listing.specs.Promises.{Stored}
+use Rattle.listing.specs.Numbers.{stateNumbers}
 use Rattle.image.specs.Images.{imageOf, modelIn, loadedTold}
 use Rattle.image.specs.declared.Loaded.{Loaded}
-
--- the six stored bytes are bytes
-pub record Stored (g : Registers) : Type 0 where
-  pub r15 : g .r15 < 256
-  pub r16 : g .r16 < 256
-  pub r17 : g .r17 < 256
-  pub r18 : g .r18 < 256
-  pub r19 : g .r19 < 256
-  pub r1a : g .r1a < 256
 
 -- every number of the model has 32 bits and every stored byte eight, as in every model of the program's
 abbrev pub Storable : Model → Type 0

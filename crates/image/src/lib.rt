@@ -1,8 +1,7 @@
 // A model's image: its numbers as words, and the model back out of them.
-pub mod back;
-pub mod numbers;
-
-use crate::numbers::Numbers;
+use listing::Numbers;
+use listing::apart;
+use listing::back;
 use parts::state::Model;
 ghost use mathlib.Core.Path.{_≡_};
 ghost use mathlib.Core.List.{_∷_};
@@ -36,7 +35,7 @@ fn put_model(image: &mut [u8], m: Model)
             let none = [0u32; 53];
             put(image, 0, none)
         }
-        Model::On(s) => put(image, 1, numbers::apart(s)),
+        Model::On(s) => put(image, 1, apart::numbers_of(s)),
     }
 }
 

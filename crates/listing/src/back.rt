@@ -1,5 +1,5 @@
 // A state out of a list of numbers: every list makes one.
-use crate::numbers::Numbers;
+use crate::Numbers;
 use base::volts;
 use event::ibat;
 use parts::band::Band;
@@ -14,7 +14,7 @@ use parts::settings::Settings;
 use parts::state::State;
 use parts::watchdog::Watchdog;
 ghost use mathlib.Core.Path.{_≡_};
-ghost use Rattle.image.specs.Back.{profileFrom, settingsFrom, registersFrom, latchesFrom, cycleFrom, sampleFrom, phaseFrom, bandFrom, flagsFrom, stateFrom};
+ghost use Rattle.listing.specs.Back.{profileFrom, settingsFrom, registersFrom, latchesFrom, cycleFrom, sampleFrom, phaseFrom, bandFrom, flagsFrom, stateFrom};
 
 fn profile(all: Numbers) -> Profile
     ensures { λ r. ⌜ r ≡ profileFrom all 0 ⌝ }

@@ -1,4 +1,5 @@
-// The numbers of a state, one list: part after part.
+// The numbers of a state: each part stores its own in the one list.
+use crate::Numbers;
 use base::choice::bit;
 use base::volts;
 use event::ibat;
@@ -14,10 +15,7 @@ use parts::settings::Settings;
 use parts::state::State;
 ghost use mathlib.Core.Path.{_≡_};
 ghost use lib.Seq.{sets};
-ghost use Rattle.image.specs.Numbers.{profileNumbers, settingsNumbers, registersNumbers, latchesNumbers, cycleNumbers, sampleNumbers, judgedNumbers, stateNumbers};
-
-// A state's numbers.
-pub type Numbers = [u32; 53];
+ghost use Rattle.listing.specs.Numbers.{profileNumbers, settingsNumbers, registersNumbers, latchesNumbers, cycleNumbers, sampleNumbers, judgedNumbers, stateNumbers};
 
 fn with_profile(before: Numbers, p: Profile) -> Numbers
     ensures { λ r. ⌜ r ≡ sets before 0 (profileNumbers p) ⌝ }
@@ -126,7 +124,7 @@ fn with_judged(before: Numbers, s: State) -> Numbers
 }
 
 // A state's numbers.
-pub fn apart(s: State) -> Numbers
+pub fn numbers_of(s: State) -> Numbers
     ensures { λ r. ⌜ r ≡ stateNumbers s ⌝ }
 {
     let profile = s.profile;

@@ -1,0 +1,32 @@
+// What the calls answer: a number, 0 or the refusal's, its place, and what the call is about.
+#[repr(C)]
+pub struct Answer {
+    pub number: u32,
+    pub place: usize,
+}
+
+#[repr(C)]
+pub struct Played {
+    pub number: u32,
+    // of the record that was read; 0 where none was
+    pub kind: u32,
+    // where that record, or what can't be read, starts
+    pub place: usize,
+    // where the next record starts; `place` where none was read
+    pub next: usize,
+}
+
+#[repr(C)]
+pub struct Byte {
+    pub number: u32,
+    pub byte: u32,
+    pub place: usize,
+}
+
+#[repr(C)]
+pub struct Put {
+    pub number: u32,
+    // bytes of the record
+    pub count: u32,
+    pub place: usize,
+}

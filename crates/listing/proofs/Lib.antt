@@ -1,0 +1,3 @@
+-- The laws of the crate `listing`.
+pub mod FlagBits
+pub mod Again

@@ -1,0 +1,11 @@
+use borrow.Author.Needs.{needs}
+use Rattle.listing.specs.Back.{flagsFrom}
+use Rattle.listing.proofs.back.flags.Statement.{statement}
+use Rattle.listing.proofs.back.flags.Tie as tie
+
+returns : tie.Need-returns
+unfolding flagsFrom
+returns c = search needs
+
+pub flags-spec : {M : Type 1} → statement M
+flags-spec = tie.close (tie.spec returns)

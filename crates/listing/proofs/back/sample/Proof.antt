@@ -1,0 +1,13 @@
+use mir.Syntax.{w32}
+use mir.ValLaws.{toZ-ofZ}
+use borrow.Author.Needs.{needs}
+use Rattle.listing.proofs.back.sample.Statement.{statement}
+use Rattle.listing.proofs.back.sample.Tie as tie
+
+returns : tie.Need-returns
+returns c = rw (toZ-ofZ w32 (c .signed .result) (search needs), c .signed .ensures)
+
+pub sample-spec : {M : Type 1} → statement M
+sample-spec =
+    tie.close
+    (tie.spec (λ c. search needs) (λ c κs. tt) (λ c. search needs) (λ c. search needs) (λ c. search needs) (λ c. search needs) (λ c. search needs) returns)
