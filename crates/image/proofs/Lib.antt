@@ -1,1 +1,3 @@
 -- The laws of the crate `image`.
+pub mod ImageLaws
+mod Stores

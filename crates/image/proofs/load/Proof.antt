@@ -1,3 +1,5 @@
+use mathlib.Core.Path.{_≡_, refl, sym, ap, _∙_}
+use Rattle.image.proofs.Stores.{not-long, loads}
 use borrow.Author.Needs.{needs}
 use Rattle.image.proofs.load.Statement.{statement}
 use Rattle.image.proofs.load.Tie as tie
@@ -9,7 +11,7 @@ use Rattle.words.proofs.same.same.Reads as same-reads
 
 -- src/lib.rt:73:9
 returns : tie.Need-returns
-returns c = ?
+returns c = not-long _ (c .if1 .taken)
 
 -- src/lib.rt:75:9
 model-from-requires : tie.Need-model-from-requires
@@ -33,11 +35,19 @@ same-requires c κs = search needs
 
 -- src/lib.rt:69:1
 returns-2 : tie.Need-returns-2
-returns-2 c = ?
+returns-2 c =
+    let s = c .before in
+    let p = s .before .before .before in
+    let f = p .before .before in
+    sym (loads (f .before .before .before .args .image .now) (p .put-model .last .0) (f .model-from .result) (s .same .result) (f .model-from .ensures) (p .put-model .ensures) (s .same .ensures) ∙ rw (c .if2 .taken))
 
 -- src/lib.rt:69:1
 returns-3 : tie.Need-returns-3
-returns-3 c = ?
+returns-3 c =
+    let s = c .before in
+    let p = s .before .before .before in
+    let f = p .before .before in
+    sym (loads (f .before .before .before .args .image .now) (p .put-model .last .0) (f .model-from .result) (s .same .result) (f .model-from .ensures) (p .put-model .ensures) (s .same .ensures) ∙ rw (c .if2 .left))
 
 pub load-spec : {M : Type 1} → statement M
 load-spec =

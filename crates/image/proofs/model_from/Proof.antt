@@ -1,3 +1,4 @@
+use Rattle.image.proofs.Stores.{off-is, on-is}
 use borrow.Author.Needs.{needs}
 use Rattle.image.proofs.model_from.Statement.{statement}
 use Rattle.image.proofs.model_from.Tie as tie
@@ -20,7 +21,7 @@ array-read-if1 c = search needs
 
 -- src/lib.rt:61:9
 returns : tie.Need-returns
-returns c = ?
+returns c = let r = c .before .before in off-is (r .before .before .before .args .image .now) (r .read .last .1 .0) (r .read .ensures) (c .if1 .taken)
 
 -- src/lib.rt:64:17
 sub-read : tie.Need-sub-read
@@ -48,7 +49,11 @@ made-requires c κs = search needs
 
 -- src/lib.rt:54:1
 returns-2 : tie.Need-returns-2
-returns-2 c = ?
+returns-2 c = 
+    let all = c .before .before in
+    let one = all .before .before .before .before .before in
+    let a = one .before .before .before in
+    on-is (a .args .image .now) (one .read .last .1 .0) (all .read2 .last .1 .0) (c .made .result) (a .pre) (one .read .ensures) (all .before .before .before .if1 .left) (all .read2 .ensures) (c .made .ensures)
 
 pub model-from-spec : {M : Type 1} → statement M
 model-from-spec =

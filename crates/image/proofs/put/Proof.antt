@@ -1,3 +1,4 @@
+use Rattle.image.proofs.Stores.{both-put}
 use borrow.Author.Needs.{needs}
 use Rattle.image.proofs.put.Statement.{statement}
 use Rattle.image.proofs.put.Tie as tie
@@ -39,7 +40,7 @@ same-length c = search needs
 
 -- src/lib.rt:19:1
 returns : tie.Need-returns
-returns c = ?
+returns c = let a = c .before .before .before .before .before .before .before .before .before .before .before in both-put (a .args .image .now) (c .before .before .before .before .before .before .before .write .last .0) (c .before .before .write2 .last .0) (a .args .t3) (a .args .first) (a .pre) (search needs) (c .before .before .before .before .before .before .before .write .ensures .1) (c .before .before .write2 .ensures .1)
 
 pub put-spec : {M : Type 1} → statement M
 put-spec =

@@ -1,3 +1,5 @@
+use Rattle.image.specs.Images.{imageOf}
+use mathlib.Core.Path.{_≡_, refl, sym, ap, _∙_}
 use borrow.Author.Needs.{needs}
 use Rattle.image.proofs.put_model.Statement.{statement}
 use Rattle.image.proofs.put_model.Tie as tie
@@ -32,7 +34,8 @@ same-length c = search needs
 
 -- src/lib.rt:29:1
 returns : tie.Need-returns
-returns c = ?
+unfolding imageOf
+returns c = c .before .before .put .ensures ∙ sym (ap imageOf (c .before .before .before .before .enum-told .given .1))
 
 -- src/lib.rt:29:1
 same-length-2 : tie.Need-same-length-2
@@ -40,7 +43,8 @@ same-length-2 c = search needs
 
 -- src/lib.rt:29:1
 returns-2 : tie.Need-returns-2
-returns-2 c = ?
+unfolding imageOf
+returns-2 c = c .before .before .put2 .ensures ∙ rw (c .before .before .before .numbers-of .ensures, c .before .before .before .before .before .before .m .given .1)
 
 pub put-model-spec : {M : Type 1} → statement M
 put-model-spec =
