@@ -3,7 +3,6 @@ ghost use mathlib.Core.Path.{_≡_};
 ghost use Rattle.firmware.specs.Given.{givenTold, givenOf};
 use base::refusal::Refusal;
 use event::Event;
-use event::fields;
 use event::kinds;
 use event::kinds::Known;
 
@@ -29,5 +28,5 @@ pub fn event_of(kind: u32, bytes: &[u8]) -> Given
     }
     let mut all = [0u32; 10];
     words::read(bytes, &mut all);
-    Given::Event(fields::made(of, all))
+    Given::Event(event::fields::made(of, all))
 }

@@ -44,9 +44,29 @@ pub made-again : MadeAgain
 unfolding stateFrom stateNumbers
 made-again s h =
     let g = s .registers in
-    rw (byte-back (g .r15) (h .r15), byte-back (g .r16) (h .r16), byte-back (g .r17) (h .r17), byte-back (g .r18) (h .r18), byte-back (g .r19) (h .r19), byte-back (g .r1a) (h .r1a),
-      signs .back (s .sample .ibat), phase-back (s .phase), band-back (s .band), flags-back (s .flags),
-      test-back (s .settings .enchg), test-back (s .settings .enterm), test-back (s .settings .enhiz), test-back (s .settings .enextilim), test-back (s .settings .disstat),
-      test-back (g .vchgoverride), test-back (g .celloverride), test-back (g .ichgoverride),
-      test-back (s .latches .inputok), test-back (s .latches .inputover), test-back (s .latches .short), test-back (s .latches .low), test-back (s .latches .packover),
-      test-back (s .cycle .done))
+    rw (
+      byte-back (g .r15) (h .r15),
+      byte-back (g .r16) (h .r16),
+      byte-back (g .r17) (h .r17),
+      byte-back (g .r18) (h .r18),
+      byte-back (g .r19) (h .r19),
+      byte-back (g .r1a) (h .r1a),
+      signs .back (s .sample .ibat),
+      phase-back (s .phase),
+      band-back (s .band),
+      flags-back (s .flags),
+      test-back (s .settings .enchg),
+      test-back (s .settings .enterm),
+      test-back (s .settings .enhiz),
+      test-back (s .settings .enextilim),
+      test-back (s .settings .disstat),
+      test-back (g .vchgoverride),
+      test-back (g .celloverride),
+      test-back (g .ichgoverride),
+      test-back (s .latches .inputok),
+      test-back (s .latches .inputover),
+      test-back (s .latches .short),
+      test-back (s .latches .low),
+      test-back (s .latches .packover),
+      test-back (s .cycle .done),
+    )

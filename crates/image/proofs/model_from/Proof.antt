@@ -49,7 +49,7 @@ made-requires c κs = search needs
 
 -- src/lib.rt:54:1
 returns-2 : tie.Need-returns-2
-returns-2 c = 
+returns-2 c =
     let all = c .before .before in
     let one = all .before .before .before .before .before in
     let a = one .before .before .before in

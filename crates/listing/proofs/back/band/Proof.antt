@@ -15,7 +15,7 @@ returns-4 : tie.Need-returns-4
 returns-4 c = simp (c .match .keys4)
 
 returns-5 : tie.Need-returns-5
-returns-5 c = 
+returns-5 c =
     let r = c .match .rest in
     simp (ne-eqb _ 0 (r .0 .0 .0 .1), ne-eqb _ 1 (r .0 .0 .1), ne-eqb _ 2 (r .0 .1), ne-eqb _ 3 (r .1))
 

@@ -24,7 +24,7 @@ returns-7 : tie.Need-returns-7
 returns-7 c = simp (c .match .keys7)
 
 returns-8 : tie.Need-returns-8
-returns-8 c = 
+returns-8 c =
     let r = c .match .rest in
     simp (ne-eqb _ 0 (r .0 .0 .0 .0 .0 .0 .1), ne-eqb _ 1 (r .0 .0 .0 .0 .0 .1), ne-eqb _ 2 (r .0 .0 .0 .0 .1), ne-eqb _ 3 (r .0 .0 .0 .1), ne-eqb _ 4 (r .0 .0 .1), ne-eqb _ 5 (r .0 .1), ne-eqb _ 6 (r .1))
 
