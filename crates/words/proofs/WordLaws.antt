@@ -1,10 +1,10 @@
 -- Words and their bytes: lengths, and that words read back.
-use Prim.Native.Nat.{ℕ, zero, suc, _+_, _*_, _/_, _%_, _^_, _<_}
+use Prim.Native.Nat.{ℕ, zero, suc, _+_, _*_, _/_, _%_, _^_, _≤_, _<_}
 use mathlib.Core.Path.{_≡_, refl, sym, ap, _∙_}
 use mathlib.Core.List.{List, [], _∷_, _++_, append-nil}
 use native.Mathlib.Omega.{arith}
-use native.Mathlib.Nat.{zero-add}
-use lib.ListN.{length, drop, drop-of-length-le}
+use native.Mathlib.Nat.{zero-add, not-suc-le-zero, le-of-suc-le-suc}
+use lib.ListN.{length, take, drop, drop-of-length-le}
 use lib.Seq.{sets, sets-eq}
 use Rattle.words.specs.Words.{wordBytes, bytesOf, wordAt, wordsIn}
 use Rattle.words.specs.Promises.{AllWords, ReadsBack}
@@ -48,3 +48,13 @@ pub reads-back : ReadsBack
 unfolding bytesOf wordsIn
 reads-back [] h = refl
 reads-back (n ∷ ns) h = both-back n ns (bytesOf ns) (wordsIn (length ns) (bytesOf ns)) (h .0) (reads-back ns (h .1))
+
+few-more : (m n : ℕ) (w : ℕ) (a b : List ℕ) → a ≡ b → w ∷ a ≡ w ∷ b
+few-more m n w a b e = ap (λ l. w ∷ l) e
+
+-- fewer words are the first of more
+pub few-words : (n m : ℕ) (s : List ℕ) → n ≤ m → take n (wordsIn m s) ≡ wordsIn n s
+unfolding wordsIn
+few-words zero m s h = refl
+few-words (suc n) zero s h = absurd (not-suc-le-zero h)
+few-words (suc n) (suc m) s h = few-more m n (wordAt s 0) (take n (wordsIn m (drop 4 s))) (wordsIn n (drop 4 s)) (few-words n m (drop 4 s) (le-of-suc-le-suc h))
