@@ -1,9 +1,11 @@
 # Two commands do everything: `make run` runs the paper's example log, `make test` proves and tests all of it.
-.PHONY: run runlog test
+.PHONY: run runlog partlog test bench install
 
-# The program `runlog`, proved and linked: target/bin/runlog.
-runlog:
-	@rt check runlog
+PREFIX ?= /usr/local
+
+# The programs, proved and linked: target/bin/runlog, target/bin/partlog.
+runlog partlog:
+	@rt check $@
 
 # Proves runlog, runs it on the paper's example, crates/runlog/stdin, and shows what it printed; that must be crates/runlog/stdout.
 run: runlog
@@ -11,3 +13,15 @@ run: runlog
 
 test:
 	@scripts/test
+
+# The library and runlog against the Rust implementation: events a second, instructions, stack.
+bench:
+	@scripts/bench
+
+# Header, archive and programs, for x86-64.
+install: runlog partlog
+	@rt staticlib firmware
+	install -D -m 644 include/cheukdane.h $(DESTDIR)$(PREFIX)/include/cheukdane.h
+	install -D -m 644 target/staticlib/libfirmware.a $(DESTDIR)$(PREFIX)/lib/libcheukdane.a
+	install -D -m 755 target/bin/runlog $(DESTDIR)$(PREFIX)/bin/runlog
+	install -D -m 755 target/bin/partlog $(DESTDIR)$(PREFIX)/bin/partlog
