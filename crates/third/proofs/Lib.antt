@@ -1,0 +1,3 @@
+-- The laws of the crate `third`.
+pub mod Means
+pub mod Positions
