@@ -1,0 +1,67 @@
+-- The clauses of the demand's first sentence, together: they hold exactly where a phase that charges is held.
+use Prim.Native.Nat.{ℕ}
+use mathlib.Core.Path.{_≡_, refl}
+use mathlib.Core.Logic.{inl, inr}
+use mathlib.Core.Bool.{Bool, true, false, not, _&&_, _||_, false≢true}
+use lib.Dec.{eqb}
+use Rattle.parts.specs.declared.band.Band.{Band}
+use Rattle.parts.specs.declared.band.Band.the-variants.{Normal, Cold, Cool, Warm, Hot}
+use Rattle.phases.specs.Order.{charging}
+use Rattle.sense.specs.Bits.{ceHigh, hizHigh, shutdownOf}
+use Rattle.history.specs.History.{Run}
+use Rattle.history.specs.Held.{sampleOf}
+use Rattle.history.specs.Valued.{settingOf}
+use Rattle.history.specs.Judged.{isetc, vset, bandAt, suspendedIn, suspended, permitted}
+use Rattle.history.specs.Cycles.{Stage, Keeps, phaseAt}
+use Rattle.third.specs.Crossed.{InputGood}
+use Rattle.third.specs.Stages.{Reached}
+use Rattle.third.specs.Demand.{HighZ, Permitted, Fault, SuspendingIn, Suspending, Charging}
+use Rattle.third.proofs.Means.{Means, eqb-means, true-means, false-means, and-means, or-means, not-means, re-means, by-test}
+use Rattle.third.proofs.Crossings.{good-means, pins-mean, pack-means}
+use Rattle.third.proofs.Cycling.{any-means, done-means}
+use Rattle.third.proofs.Charges.{chargesAt, charges-is}
+
+high-means : (r : Run) → Means (eqb (settingOf 11 r) 1 || (eqb (settingOf 12 r) 1 && hizHigh (sampleOf r))) (HighZ r)
+high-means r = or-means (eqb-means (settingOf 11 r) 1) (and-means (eqb-means (settingOf 12 r) 1) (true-means (hizHigh (sampleOf r))))
+
+permitted-means : (r : Run) → Means (permitted r) (InputGood r × Permitted r)
+unfolding permitted
+permitted-means r =
+    re-means
+    (λ h. (h .0 .0 .0 .0, record { driven = h .0 .0 .0 .1; enabled = h .0 .0 .1; ceLow = h .0 .1; pinned = h .1 }))
+    (λ h. ((((h .0, h .1 .driven), h .1 .enabled), h .1 .ceLow), h .1 .pinned))
+    (and-means
+    (and-means
+    (and-means (and-means (good-means r) (not-means (high-means r))) (eqb-means (settingOf 9 r) 1))
+    (false-means (ceHigh (sampleOf r))))
+    (not-means (pins-mean r)))
+
+suspended-in : (b : Band) (r : Run) → Means (suspendedIn b r) (SuspendingIn b r)
+suspended-in Normal r = record { fact = λ t. false≢true t; test = λ h. absurd h }
+suspended-in Cold r = record { fact = λ t. tt; test = λ h. refl }
+suspended-in Cool r = eqb-means (isetc r) 0
+suspended-in Warm r = eqb-means (vset r) 0
+suspended-in Hot r = record { fact = λ t. tt; test = λ h. refl }
+
+suspended-means : (r : Run) → Means (suspended r) (Suspending r)
+unfolding suspended
+suspended-means r = suspended-in (bandAt r) r
+
+tests-mean : (r : Run) → Means (chargesAt phaseAt r) (Charging r)
+tests-mean r =
+    re-means
+    (λ h. record {
+      good = h .0 .0;
+      permitted = h .0 .1;
+      sound = h .1 .0;
+      mild = h .1 .1 .0;
+      undone = h .1 .1 .1 .0;
+      within = λ s t. h .1 .1 .1 .1 (s, t);
+    })
+    (λ h. ((h .good, h .permitted), (h .sound, (h .mild, (h .undone, λ t. h .within (t .0) (t .1))))))
+    (and-means (permitted-means r)
+    (and-means (not-means (or-means (true-means (shutdownOf (sampleOf r))) (pack-means r)))
+    (and-means (not-means (suspended-means r)) (and-means (not-means (done-means r)) (not-means (any-means r))))))
+
+pub charging-means : Keeps phaseAt → (r : Run) → Means (charging (phaseAt r)) (Charging r)
+charging-means k r = by-test (charges-is phaseAt k r) (tests-mean r)
