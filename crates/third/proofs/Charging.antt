@@ -10,8 +10,8 @@ use Rattle.phases.specs.Order.{charging}
 use Rattle.sense.specs.Bits.{ceHigh, hizHigh, shutdownOf}
 use Rattle.history.specs.History.{Run}
 use Rattle.history.specs.Held.{sampleOf}
-use Rattle.history.specs.Valued.{settingOf}
-use Rattle.history.specs.Judged.{isetc, vset, bandAt, suspendedIn, suspended, permitted}
+use Rattle.history.specs.Valued.{pinFault, settingOf, enabled}
+use Rattle.history.specs.Judged.{inputGood, isetc, vset, bandAt, suspendedIn, packOver, suspended, highZ, permitted}
 use Rattle.history.specs.Cycles.{Stage, Keeps, phaseAt}
 use Rattle.third.specs.Crossed.{InputGood}
 use Rattle.third.specs.Stages.{Reached}
@@ -21,20 +21,30 @@ use Rattle.third.proofs.Crossings.{good-means, pins-mean, pack-means}
 use Rattle.third.proofs.Cycling.{any-means, done-means}
 use Rattle.third.proofs.Charges.{chargesAt, charges-is}
 
-high-means : (r : Run) → Means (eqb (settingOf 11 r) 1 || (eqb (settingOf 12 r) 1 && hizHigh (sampleOf r))) (HighZ r)
+high-means : (r : Run) → Means (highZ r) (HighZ r)
 high-means r = or-means (eqb-means (settingOf 11 r) 1) (and-means (eqb-means (settingOf 12 r) 1) (true-means (hizHigh (sampleOf r))))
+
+-- what permission asks beside a good input
+abbrev pub allowed : Run → Bool
+allowed r = not (highZ r) && enabled 9 r && not (ceHigh (sampleOf r)) && not (pinFault r)
+
+pub allowed-means : (r : Run) → Means (allowed r) (Permitted r)
+allowed-means r =
+    re-means (λ h. record { driven = h .0 .0 .0; enabled = h .0 .0 .1; ceLow = h .0 .1; pinned = h .1 })
+    (λ h. (((h .driven, h .enabled), h .ceLow), h .pinned))
+    (and-means
+    (and-means (and-means (not-means (high-means r)) (eqb-means (settingOf 9 r) 1)) (false-means (ceHigh (sampleOf r))))
+    (not-means (pins-mean r)))
+
+apart : (a b c d e : Bool) → (a && b && c && d && e) ≡ (a && (b && c && d && e))
+apart true b c d e = refl
+apart false b c d e = refl
 
 permitted-means : (r : Run) → Means (permitted r) (InputGood r × Permitted r)
 unfolding permitted
 permitted-means r =
-    re-means
-    (λ h. (h .0 .0 .0 .0, record { driven = h .0 .0 .0 .1; enabled = h .0 .0 .1; ceLow = h .0 .1; pinned = h .1 }))
-    (λ h. ((((h .0, h .1 .driven), h .1 .enabled), h .1 .ceLow), h .1 .pinned))
-    (and-means
-    (and-means
-    (and-means (and-means (good-means r) (not-means (high-means r))) (eqb-means (settingOf 9 r) 1))
-    (false-means (ceHigh (sampleOf r))))
-    (not-means (pins-mean r)))
+    by-test (apart (inputGood r) (not (highZ r)) (enabled 9 r) (not (ceHigh (sampleOf r))) (not (pinFault r)))
+    (and-means (good-means r) (allowed-means r))
 
 suspended-in : (b : Band) (r : Run) → Means (suspendedIn b r) (SuspendingIn b r)
 suspended-in Normal r = record { fact = λ t. false≢true t; test = λ h. absurd h }
@@ -43,11 +53,17 @@ suspended-in Cool r = eqb-means (isetc r) 0
 suspended-in Warm r = eqb-means (vset r) 0
 suspended-in Hot r = record { fact = λ t. tt; test = λ h. refl }
 
-suspended-means : (r : Run) → Means (suspended r) (Suspending r)
+pub suspended-means : (r : Run) → Means (suspended r) (Suspending r)
 unfolding suspended
 suspended-means r = suspended-in (bandAt r) r
 
-tests-mean : (r : Run) → Means (chargesAt phaseAt r) (Charging r)
+abbrev pub faulty : Run → Bool
+faulty r = shutdownOf (sampleOf r) || packOver r
+
+pub fault-means : (r : Run) → Means (faulty r) (Fault r)
+fault-means r = or-means (true-means (shutdownOf (sampleOf r))) (pack-means r)
+
+pub tests-mean : (r : Run) → Means (chargesAt phaseAt r) (Charging r)
 tests-mean r =
     re-means
     (λ h. record {
@@ -60,7 +76,7 @@ tests-mean r =
     })
     (λ h. ((h .good, h .permitted), (h .sound, (h .mild, (h .undone, λ t. h .within (t .0) (t .1))))))
     (and-means (permitted-means r)
-    (and-means (not-means (or-means (true-means (shutdownOf (sampleOf r))) (pack-means r)))
+    (and-means (not-means (fault-means r))
     (and-means (not-means (suspended-means r)) (and-means (not-means (done-means r)) (not-means (any-means r))))))
 
 pub charging-means : Keeps phaseAt → (r : Run) → Means (charging (phaseAt r)) (Charging r)

@@ -31,10 +31,10 @@ HighZ r = (settingOf 11 r ≡ 1) ⊎ ((settingOf 12 r ≡ 1) × (hizHigh (sample
 
 -- "Permission: input good, no HIZ .., EN_CHG, CE low, no pin fault.": what it asks beside a good input
 pub record Permitted (r : Run) : Type 0 where
-  pub driven : HighZ r → ⊥
+  pub driven : ¬ HighZ r
   pub enabled : settingOf 9 r ≡ 1
   pub ceLow : ceHigh (sampleOf r) ≡ false
-  pub pinned : PinFault r → ⊥
+  pub pinned : ¬ PinFault r
 
 -- "7 fault, thermal shutdown, battery over or a stage limit reached": the first two, a limit has a clause of its own
 abbrev pub Fault : Run → Type 0
@@ -55,10 +55,10 @@ Suspending r = SuspendingIn (bandAt r) r
 pub record Charging (r : Run) : Type 0 where
   pub good : InputGood r
   pub permitted : Permitted r
-  pub sound : Fault r → ⊥
-  pub mild : Suspending r → ⊥
-  pub undone : Done r → ⊥
-  pub within : (s : Stage) → Reached s r → ⊥
+  pub sound : ¬ Fault r
+  pub mild : ¬ Suspending r
+  pub undone : ¬ Done r
+  pub within : (s : Stage) → ¬ Reached s r
 
 -- "no more than the charge setting, the pin clamp unless overridden, and the temperature band's share"
 pub record Bounded (r : Run) (current : ℕ) : Type 0 where
@@ -82,11 +82,11 @@ pub record Third (r : Run) (q : Report) : Type 0 where
   -- "It is then 100 mA in trickle,"
   pub trickle : Charging r → Short r → q .current ≡ 100
   -- "the precharge setting in precharge,"
-  pub precharge : Charging r → (Short r → ⊥) → Low r → q .current ≡ settingOf 3 r
+  pub precharge : Charging r → ¬ Short r → Low r → q .current ≡ settingOf 3 r
   -- "and otherwise no more than the charge setting, the pin clamp unless overridden, and the temperature band's share."
-  pub otherwise : Charging r → (Short r → ⊥) → (Low r → ⊥) → Bounded r (q .current)
+  pub otherwise : Charging r → ¬ Short r → ¬ Low r → Bounded r (q .current)
   -- to the mA: 01, "else the lower of ICHG and clamp, times 20, 40, 100% in cool (ISETC 1-3), 40 or 100% in warm"
-  pub amount : Charging r → (Short r → ⊥) → (Low r → ⊥) → q .current ≡ min (settingOf 2 r) (chargeClamp r) * shareIn (bandAt r) r / 100
+  pub amount : Charging r → ¬ Short r → ¬ Low r → q .current ≡ min (settingOf 2 r) (chargeClamp r) * shareIn (bandAt r) r / 100
   -- "Charge voltage never exceeds its setting, its clamp or either less the band's cut."
   pub setting : millivoltsOf (q .voltage) ≤ settingOf 1 r
   pub clamped : millivoltsOf (q .voltage) ≤ clamp r
@@ -94,7 +94,7 @@ pub record Third (r : Run) (q : Report) : Type 0 where
   pub clampedCut : millivoltsOf (q .voltage) ≤ clamp r - cut r
   -- to the mV: 01, "Phases 1-4 report current and voltage, others zeros. Charge voltage: base, less in warm .."
   pub voltage : Charging r → millivoltsOf (q .voltage) ≡ min (settingOf 1 r) (clamp r) - cut r
-  pub zero : (Charging r → ⊥) → millivoltsOf (q .voltage) ≡ 0
+  pub zero : ¬ Charging r → millivoltsOf (q .voltage) ≡ 0
 
 -- the model that a step leads to from before the power-on through a run
 unfoldable pub ranBy : (Model → Event → Outcome) → Run → Model
