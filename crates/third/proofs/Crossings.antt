@@ -14,11 +14,11 @@ use Rattle.third.specs.Crossed.{InputOk, InputOver, InputGood, PinFault,
 use Rattle.third.proofs.Means.{Means, leb-means, ltb-means, eqb-means, false-means, and-means, or-means, not-means, re-means}
 use Rattle.third.proofs.Positions.{since-means}
 
-ok-means : (r : Run) → Means (inputOk r) (InputOk r)
+pub ok-means : (r : Run) → Means (inputOk r) (InputOk r)
 unfolding inputOk
 ok-means r = since-means (λ m. leb-means 2350 (sampleOf m .input)) (λ m. leb-means 2900 (sampleOf m .input)) r
 
-over-means : (r : Run) → Means (inputOver r) (InputOver r)
+pub over-means : (r : Run) → Means (inputOver r) (InputOver r)
 unfolding inputOver
 over-means r = since-means (λ m. leb-means 34500 (sampleOf m .input)) (λ m. leb-means 36300 (sampleOf m .input)) r
 

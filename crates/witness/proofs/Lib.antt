@@ -1,0 +1,3 @@
+-- The laws of the crate `witness`.
+pub mod Rows
+pub mod Clauses
