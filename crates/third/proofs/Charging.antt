@@ -12,7 +12,8 @@ use Rattle.history.specs.History.{Run}
 use Rattle.history.specs.Held.{sampleOf}
 use Rattle.history.specs.Valued.{pinFault, settingOf, enabled}
 use Rattle.history.specs.Judged.{inputGood, isetc, vset, bandAt, suspendedIn, packOver, suspended, highZ, permitted}
-use Rattle.history.specs.Cycles.{Stage, Keeps, phaseAt}
+use Rattle.history.specs.Cycles.{Stage, phaseAt}
+use Rattle.history.proofs.Past.{phase-keeps-rule}
 use Rattle.third.specs.Crossed.{InputGood}
 use Rattle.third.specs.Stages.{Reached}
 use Rattle.third.specs.Demand.{HighZ, Permitted, Fault, SuspendingIn, Suspending, Charging}
@@ -79,5 +80,5 @@ tests-mean r =
     (and-means (not-means (fault-means r))
     (and-means (not-means (suspended-means r)) (and-means (not-means (done-means r)) (not-means (any-means r))))))
 
-pub charging-means : Keeps phaseAt → (r : Run) → Means (charging (phaseAt r)) (Charging r)
-charging-means k r = by-test (charges-is phaseAt k r) (tests-mean r)
+pub charging-means : (r : Run) → Means (charging (phaseAt r)) (Charging r)
+charging-means r = by-test (charges-is phaseAt phase-keeps-rule r) (tests-mean r)

@@ -6,4 +6,5 @@ pub mod Cycling
 pub mod Charges
 pub mod Charging
 pub mod Amounts
+pub mod Shows
 pub mod Third

@@ -3,6 +3,7 @@ use Prim.Native.Nat.{ℕ, _*_, _/_, _-_, _≤_, _<_, min}
 use mathlib.Core.Path.{_≡_}
 use mathlib.Core.Logic.{_↔_, _⊎_}
 use mathlib.Core.Bool.{true, false}
+use mathlib.Core.List.{List}
 use Rattle.base.specs.Units.{inPack}
 use Rattle.base.specs.Volts.{millivoltsOf}
 use Rattle.parts.specs.Pins.{ichgOf}
@@ -15,13 +16,16 @@ use Rattle.sense.specs.Bits.{ceHigh, hizHigh, shutdownOf}
 use Rattle.event.specs.declared.Event.{Event}
 use Rattle.event.specs.declared.Event.the-variants.{PowerOn}
 use Rattle.shown.specs.declared.answer.Report.{Report}
+use Rattle.shown.specs.Report.{reportOf}
 use Rattle.moves.specs.Plain.{Outcome}
+use Rattle.charger.specs.Pages.{wholeOf}
 use Rattle.history.specs.History.{Run, powered, _▸_, asEvent}
 use Rattle.history.specs.Held.{profileOf, sampleOf, ichg, overridden, cellsOf}
 use Rattle.history.specs.Valued.{settingOf}
 use Rattle.history.specs.Judged.{packClamp, chargeClamp, isetc, vset, bandAt, shareIn, cutIn}
 use Rattle.history.specs.Cycles.{Stage}
-use Rattle.history.specs.Refused.{Accepted}
+use Rattle.history.specs.Refused.{Accepted, some}
+use Rattle.history.specs.Runs.{logged}
 use Rattle.third.specs.Crossed.{InputGood, PinFault, Short, Low, PackOver}
 use Rattle.third.specs.Stages.{Reached, Done}
 
@@ -104,3 +108,8 @@ ranBy step (r ▸ e) = step (ranBy step r) (asEvent e) .model
 -- demand 3, of a step and of what is reported of a state: after every run of accepted events the model is on, and its report is as the run tells
 abbrev pub ThirdDemand : (Model → Event → Outcome) → (State → Report) → Type 0
 ThirdDemand step report = (r : Run) → Accepted r → (s : State) × (ranBy step r ≡ On s) × Third r (report s)
+
+-- and of every log: what is reported after it is as the accepted events since its latest accepted power-on tell
+abbrev pub ThirdOfLogs : Type 0
+ThirdOfLogs =
+    (bytes : List ℕ) (r : Run) → logged bytes ≡ some r → (s : State) × (wholeOf bytes .last .model ≡ On s) × Third r (reportOf s)
