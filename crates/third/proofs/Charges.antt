@@ -17,24 +17,26 @@ use Rattle.history.specs.Held.{profileOf, sampleOf, wasReset}
 use Rattle.history.specs.Judged.{inputOk, inputGood, short, low, packOver, permitted, suspended, tapering, rechargeDue}
 use Rattle.history.specs.Cycles.{Stage, trickle, precharge, fast, limitOf, reaches, gave, isDone, wasDone, restarts, starts, timeIn, timeFound, limitFound, fault, chargeEnds, phaseBy, limitReached, Keeps}
 
--- over tests: permitted, shut down or over, a limit found, suspended, done, done before, short, low, taper
+-- by the phase judged, permission and done before: done after, and the times cleared
 abbrev doneAfter : Phase → Bool → Bool
-doneAfter q h = eqb (phaseNumber q) 5 || leb 5 (phaseNumber q) && h
+doneAfter q was = eqb (phaseNumber q) 5 || leb 5 (phaseNumber q) && was
 
 abbrev clears : Phase → Bool → Bool → Bool
-clears q p h = not p || h && ltb (phaseNumber q) 5
+clears q permit was = not permit || was && ltb (phaseNumber q) 5
 
+-- permitted, shut down or over, a limit found, suspended, done before
 abbrev allows : Phase → Bool → Bool → Bool → Bool → Bool → Bool
-allows q p f l s h = p && (not f && (not s && (not (doneAfter q h) && not (not (clears q p h) && l))))
+allows q p f l s was = p && (not f && (not s && (not (doneAfter q was) && not (not (clears q p was) && l))))
 
-allowed : (p f l s d h sh lo ta : Bool) → charging (firstPhase p (f || l) s d sh lo ta) ≡ allows (firstPhase p (f || l) s d sh lo ta) p f l s h
-allowed false f l s d h sh lo ta = refl
-allowed true true l s d h sh lo ta = refl
-allowed true false true true d h sh lo ta = refl
+-- and done, short, low, taper
+allowed : (p f l s d was sh lo ta : Bool) → charging (firstPhase p (f || l) s d sh lo ta) ≡ allows (firstPhase p (f || l) s d sh lo ta) p f l s was
+allowed false f l s d was sh lo ta = refl
+allowed true true l s d was sh lo ta = refl
+allowed true false true true d was sh lo ta = refl
 allowed true false true false d true sh lo ta = refl
 allowed true false true false d false sh lo ta = refl
-allowed true false false true d h sh lo ta = refl
-allowed true false false false true h sh lo ta = refl
+allowed true false false true d was sh lo ta = refl
+allowed true false false false true was sh lo ta = refl
 allowed true false false false false true true lo ta = refl
 allowed true false false false false false true lo ta = refl
 allowed true false false false false true false true ta = refl
@@ -55,7 +57,7 @@ staged true false true d sh lo ta h = absurd (false≢true h)
 staged true false false true sh lo ta h = absurd (false≢true h)
 staged true false false false sh lo ta h = refl
 
--- of a time that is cleared
+-- a time that is cleared reaches no limit
 reach-zero : (limit : ℕ) → reaches limit 0 ≡ false
 reach-zero limit = go (eqb limit 0) refl
   where
@@ -81,49 +83,53 @@ middle true b c = refl
 middle false true c = refl
 middle false false c = refl
 
--- the tests of a run's end
+-- shut down or over
+abbrev pub faulty : Run → Bool
+faulty r = shutdownOf (sampleOf r) || packOver r
+
+-- the tests at a run's end
 abbrev pub chargesAt : (Run → Phase) → Run → Bool
-chargesAt P r =
-    permitted r && (not (shutdownOf (sampleOf r) || packOver r) && (not (suspended r) && (not (isDone P r) && not (limitReached P r))))
+chargesAt P r = permitted r && (not (faulty r) && (not (suspended r) && (not (isDone P r) && not (limitReached P r))))
 
 module _ (P : Run → Phase) (k : Keeps P) where
   abbrev anyFound : Run → Bool
   anyFound r = limitFound P trickle r || limitFound P precharge r || limitFound P fast r
 
+  -- done as settling judges it: held and not to be charged again, or beginning
+  abbrev pub doneNow : Run → Bool
+  doneNow r = wasDone P r && not (rechargeDue r) || chargeEnds P r
+
   module _ (r : Run) (e : Later) where
-    done-next : doneAfter (P (r ▸ e)) (wasDone P (r ▸ e)) ≡ isDone P (r ▸ e)
+    abbrev now : Run
+    now = r ▸ e
+
+    abbrev cleared : Bool
+    cleared = clears (P now) (permitted now) (wasDone P now)
+
+    done-next : doneAfter (P now) (wasDone P now) ≡ isDone P now
     unfolding isDone since wasDone
     done-next =
-        ap (λ b. eqb (phaseNumber (P (r ▸ e))) 5 || b)
-        (sym (middle (not (wasReset (r ▸ e))) (leb 5 (phaseNumber (P (r ▸ e)))) (isDone P r)))
+        ap (λ b. eqb (phaseNumber (P now)) 5 || b) (sym (middle (not (wasReset now)) (leb 5 (phaseNumber (P now))) (isDone P r)))
 
-    reach-next : (s : Stage) → reaches (limitOf s (profileOf (r ▸ e))) (timeIn P s (r ▸ e))
-        ≡ (not (clears (P (r ▸ e)) (permitted (r ▸ e)) (wasDone P (r ▸ e))) && limitFound P s (r ▸ e))
+    reach-next : (s : Stage) → (not cleared && limitFound P s now) ≡ reaches (limitOf s (profileOf now)) (timeIn P s now)
     unfolding timeIn sumAfter starts restarts limitFound timeFound
-    reach-next s =
-        reach-cleared (limitOf s (profileOf (r ▸ e))) (wasReset (r ▸ e)) (clears (P (r ▸ e)) (permitted (r ▸ e)) (wasDone P (r ▸ e)))
-        (timeIn P s r + gave P s (r ▸ e))
+    reach-next s = sym (reach-cleared (limitOf s (profileOf now)) (wasReset now) cleared (timeIn P s r + gave P s now))
 
-    limit-next : (not (clears (P (r ▸ e)) (permitted (r ▸ e)) (wasDone P (r ▸ e))) && anyFound (r ▸ e)) ≡ limitReached P (r ▸ e)
+    limit-next : (not cleared && anyFound now) ≡ limitReached P now
     unfolding limitReached
     limit-next =
-        sym (spread (clears (P (r ▸ e)) (permitted (r ▸ e)) (wasDone P (r ▸ e))) (limitFound P trickle (r ▸ e)) (limitFound P precharge (r ▸ e)) (limitFound P fast (r ▸ e)))
-        ∙ (λ i. sym (reach-next trickle) i || sym (reach-next precharge) i || sym (reach-next fast) i)
+        sym (spread cleared (limitFound P trickle now) (limitFound P precharge now) (limitFound P fast now))
+        ∙ (λ i. reach-next trickle i || reach-next precharge i || reach-next fast i)
 
-    by-rule : charging (P (r ▸ e))
-        ≡ allows (P (r ▸ e)) (permitted (r ▸ e)) (shutdownOf (sampleOf (r ▸ e)) || packOver (r ▸ e)) (anyFound (r ▸ e)) (suspended (r ▸ e)) (wasDone P (r ▸ e))
+    by-rule : charging (P now) ≡ allows (P now) (permitted now) (faulty now) (anyFound now) (suspended now) (wasDone P now)
     unfolding phaseBy fault
     by-rule =
-        subst
-        (λ q. charging q ≡ allows q (permitted (r ▸ e)) (shutdownOf (sampleOf (r ▸ e)) || packOver (r ▸ e)) (anyFound (r ▸ e)) (suspended (r ▸ e)) (wasDone P (r ▸ e)))
-        (sym (k .rule (r ▸ e)))
-        (allowed (permitted (r ▸ e)) (shutdownOf (sampleOf (r ▸ e)) || packOver (r ▸ e)) (anyFound (r ▸ e)) (suspended (r ▸ e))
-        (wasDone P (r ▸ e) && not (rechargeDue (r ▸ e)) || chargeEnds P (r ▸ e)) (wasDone P (r ▸ e)) (short (r ▸ e)) (low (r ▸ e)) (tapering (r ▸ e)))
+        subst (λ q. charging q ≡ allows q (permitted now) (faulty now) (anyFound now) (suspended now) (wasDone P now)) (sym (k .rule now))
+        (allowed (permitted now) (faulty now) (anyFound now) (suspended now) (doneNow now) (wasDone P now) (short now) (low now) (tapering now))
 
-    charges-next : charging (P (r ▸ e)) ≡ chargesAt P (r ▸ e)
+    charges-next : charging (P now) ≡ chargesAt P now
     charges-next =
-        by-rule
-        ∙ (λ i. permitted (r ▸ e) && (not (shutdownOf (sampleOf (r ▸ e)) || packOver (r ▸ e)) && (not (suspended (r ▸ e)) && (not (done-next i) && not (limit-next i)))))
+        by-rule ∙ (λ i. permitted now && (not (faulty now) && (not (suspended now) && (not (done-next i) && not (limit-next i)))))
 
   charges-first : (p : Profile) → charging (P (powered p)) ≡ chargesAt P (powered p)
   unfolding phaseBy permitted inputGood inputOk since sampleOf
@@ -139,5 +145,4 @@ module _ (P : Run → Phase) (k : Keeps P) where
   unfolding phaseBy
   stage-is r h =
       k .rule r
-      ∙ staged (permitted r) (fault P r) (suspended r) (wasDone P r && not (rechargeDue r) || chargeEnds P r) (short r) (low r) (tapering r)
-      (sym (ap charging (k .rule r)) ∙ h)
+      ∙ staged (permitted r) (fault P r) (suspended r) (doneNow r) (short r) (low r) (tapering r) (sym (ap charging (k .rule r)) ∙ h)

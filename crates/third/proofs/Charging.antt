@@ -11,7 +11,7 @@ use Rattle.sense.specs.Bits.{ceHigh, hizHigh, shutdownOf}
 use Rattle.history.specs.History.{Run}
 use Rattle.history.specs.Held.{sampleOf}
 use Rattle.history.specs.Valued.{pinFault, settingOf, enabled}
-use Rattle.history.specs.Judged.{inputGood, isetc, vset, bandAt, suspendedIn, packOver, suspended, highZ, permitted}
+use Rattle.history.specs.Judged.{inputGood, isetc, vset, bandAt, suspendedIn, suspended, highZ, permitted}
 use Rattle.history.specs.Cycles.{Stage, phaseAt}
 use Rattle.history.proofs.Past.{phase-keeps-rule}
 use Rattle.third.specs.Crossed.{InputGood}
@@ -20,7 +20,7 @@ use Rattle.third.specs.Demand.{HighZ, Permitted, Fault, SuspendingIn, Su
 use Rattle.third.proofs.Means.{Means, eqb-means, true-means, false-means, and-means, or-means, not-means, re-means, by-test}
 use Rattle.third.proofs.Crossings.{good-means, pins-mean, pack-means}
 use Rattle.third.proofs.Cycling.{any-means, done-means}
-use Rattle.third.proofs.Charges.{chargesAt, charges-is}
+use Rattle.third.proofs.Charges.{faulty, chargesAt, charges-is}
 
 high-means : (r : Run) → Means (highZ r) (HighZ r)
 high-means r = or-means (eqb-means (settingOf 11 r) 1) (and-means (eqb-means (settingOf 12 r) 1) (true-means (hizHigh (sampleOf r))))
@@ -57,9 +57,6 @@ suspended-in Hot r = record { fact = λ t. tt; test = λ h. refl }
 pub suspended-means : (r : Run) → Means (suspended r) (Suspending r)
 unfolding suspended
 suspended-means r = suspended-in (bandAt r) r
-
-abbrev pub faulty : Run → Bool
-faulty r = shutdownOf (sampleOf r) || packOver r
 
 pub fault-means : (r : Run) → Means (faulty r) (Fault r)
 fault-means r = or-means (true-means (shutdownOf (sampleOf r))) (pack-means r)

@@ -9,13 +9,13 @@ use Rattle.history.specs.History.{Run}
 use Rattle.history.specs.Held.{profileOf, wasReset}
 use Rattle.history.specs.Cycles.{Stage, trickle, precharge, fast, limitOf, numberAt, reaches, gave, starts, isDone, timeIn, limitReached, phaseAt}
 use Rattle.third.specs.Stages.{timeRun, Reached, Done}
+use Rattle.third.specs.Laws.{TimeIsSum}
 use Rattle.third.proofs.Means.{Means, leb-means, eqb-means, false-means, and-means, or-means, not-means, re-means, or-cases, or-left, or-right}
 use Rattle.third.proofs.Positions.{since-means, sum-is}
 
--- no time is lost or invented: what the account has of a stage is the sum from the cycle's start to now
-pub time-is : (s : Stage) (r : Run) → timeIn phaseAt s r ≡ timeRun s r
+pub time-is-sum : TimeIsSum
 unfolding timeIn
-time-is s r = sum-is (starts phaseAt) (gave phaseAt s) r
+time-is-sum s r = sum-is (starts phaseAt) (gave phaseAt s) r
 
 some-means : (n : ℕ) → Means (not (eqb n 0)) (0 < n)
 some-means n =
@@ -23,7 +23,7 @@ some-means n =
 
 pub reached-means : (s : Stage) (r : Run) → Means (reaches (limitOf s (profileOf r)) (timeIn phaseAt s r)) (Reached s r)
 reached-means s r =
-    rw (time-is s r) (and-means (some-means (limitOf s (profileOf r))) (leb-means (limitOf s (profileOf r) * 2000) (timeRun s r)))
+    rw (time-is-sum s r) (and-means (some-means (limitOf s (profileOf r))) (leb-means (limitOf s (profileOf r) * 2000) (timeRun s r)))
 
 abbrev pub AnyReached : Run → Type 0
 AnyReached r = (s : Stage) × Reached s r

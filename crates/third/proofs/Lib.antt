@@ -8,3 +8,5 @@ pub mod Charging
 pub mod Amounts
 pub mod Shows
 pub mod Third
+pub mod Ended
+pub mod Beside

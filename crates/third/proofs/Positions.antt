@@ -3,10 +3,12 @@ use Prim.Native.Nat.{ℕ, zero, suc, _+_, _-_, _<_, _≤_}
 use native.Mathlib.Omega.{arith}
 use mathlib.Core.Path.{_≡_, refl, sym, ap, _∙_}
 use mathlib.Core.Bool.{Bool, true, false, _&&_, _||_}
+use mathlib.Core.Logic.{_⊎_, inl, inr, ⊎-elim}
 use lib.Dec.{leb}
 use borrow.Author.Tests.{le-leb, lt-leb, leb-true, leb-false}
 use Rattle.base.specs.Pick.{pick}
 use Rattle.base.proofs.Tests.{and-iff}
+use Rattle.parts.specs.declared.profile.Profile.{Profile}
 use Rattle.history.specs.History.{Later, Run, powered, _▸_, since, Since, sumAfter, count, upTo, lastOf, total}
 use Rattle.third.proofs.Means.{Means, or-cases, or-left, or-right}
 
@@ -24,7 +26,7 @@ module _ (p q : Run → Bool) where
   Held = Since (λ m. p m ≡ true) (λ m. q m ≡ true)
 
   -- from the computed form to a position
-  first : (x : _) → q (powered x) ≡ true → Held (powered x)
+  first : (x : Profile) → q (powered x) ≡ true → Held (powered x)
   unfolding count upTo
   first x t = (0, omega arith, t, λ j h k. absurd (omega arith))
 
@@ -57,11 +59,12 @@ module _ (p q : Run → Bool) where
   split r e s true h f =
       let l : s .0 ≤ count r = leb-true (s .0) (count r) h in
       or-right (q (r ▸ e)) (p (r ▸ e) && since p q r)
-      (and-iff (p (r ▸ e)) (since p q r) .1
-      (rw (upTo-new r e (suc (count r)) (omega arith)) at (s .3 (suc (count r)) (omega arith) (omega arith)),
-      f (s .0, l, rw (upTo-old r e (s .0) l) at (s .2), λ j k m. rw (upTo-old r e j m) at (s .3 j k (omega arith)))))
+      (and-iff (p (r ▸ e)) (since p q r) .1 (
+        rw (upTo-new r e (suc (count r)) (omega arith)) at (s .3 (suc (count r)) (omega arith) (omega arith)),
+        f (s .0, l, rw (upTo-old r e (s .0) l) at (s .2), λ j k m. rw (upTo-old r e j m) at (s .3 j k (omega arith))),
+      ))
 
-  back : (x : _) → Held (powered x) → q (powered x) ≡ true
+  back : (x : Profile) → Held (powered x) → q (powered x) ≡ true
   unfolding upTo
   back x s = s .2
 
@@ -87,7 +90,7 @@ total-alike f g a zero h = refl
 total-alike f g a (suc n) h = λ i. total-alike f g a n (λ k l. h k (omega arith)) i + h (a + suc n) (omega arith) i
 
 module _ (b : Run → Bool) (f : Run → ℕ) where
-  last-le : (r : Run) → lastOf b r ≤ count r
+  pub last-le : (r : Run) → lastOf b r ≤ count r
   unfolding lastOf count
   last-le (powered x) = omega arith
   last-le (r ▸ e) = go (b (r ▸ e)) (last-le r)
@@ -114,3 +117,36 @@ module _ (b : Run → Bool) (f : Run → ℕ) where
   unfolding sumAfter lastOf count total
   sum-is (powered x) = refl
   sum-is (r ▸ e) = ap (λ n. pick (b (r ▸ e)) 0 (n + f (r ▸ e))) (sum-is r) ∙ next-total r e (b (r ▸ e))
+
+-- the last moment at which b held, or the power-on
+module _ (b : Run → Bool) where
+  abbrev Last : Run → ℕ → Type 0
+  Last r i = ((i ≡ 0) ⊎ (b (upTo i r) ≡ true)) × ((j : ℕ) → i < j → j ≤ count r → b (upTo j r) ≡ false)
+
+  last-here : (r : Run) (e : Later) → b (r ▸ e) ≡ true → Last (r ▸ e) (suc (count r))
+  unfolding count
+  last-here r e t = (inr (rw (upTo-new r e (suc (count r)) (omega arith)) t), λ j h k. absurd (omega arith))
+
+  since-last : (r : Run) (e : Later) (i : ℕ) → b (r ▸ e) ≡ false → ((j : ℕ) → i < j → j ≤ count r → b (upTo j r) ≡ false)
+      → (j : ℕ) (t : Bool) → leb j (count r) ≡ t → i < j → b (upTo j (r ▸ e)) ≡ false
+  since-last r e i n f j true h k = rw (upTo-old r e j (leb-true j (count r) h)) (f j k (leb-true j (count r) h))
+  since-last r e i n f j false h k = rw (upTo-new r e j (leb-false j (count r) h)) n
+
+  last-on : (r : Run) (e : Later) (i : ℕ) → i ≤ count r → b (r ▸ e) ≡ false → Last r i → Last (r ▸ e) i
+  last-on r e i l n s = (
+    ⊎-elim (λ z. inl z) (λ t. inr (rw (upTo-old r e i l) t)) (s .0),
+    λ j h k. since-last r e i n (s .1) j (leb j (count r)) refl h,
+  )
+
+  last-first : (x : Profile) → Last (powered x) 0
+  unfolding count
+  last-first x = (inl refl, λ j h k. absurd (omega arith))
+
+  last-next : (r : Run) (e : Later) (t : Bool) → b (r ▸ e) ≡ t → Last r (lastOf b r) → Last (r ▸ e) (pick t (suc (count r)) (lastOf b r))
+  last-next r e true h s = last-here r e h
+  last-next r e false h s = last-on r e (lastOf b r) (last-le b (λ m. 0) r) h s
+
+  pub last-is : (r : Run) → Last r (lastOf b r)
+  unfolding lastOf count
+  last-is (powered x) = last-first x
+  last-is (r ▸ e) = last-next r e (b (r ▸ e)) refl (last-is r)

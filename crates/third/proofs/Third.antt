@@ -83,8 +83,8 @@ module _ (r : Run) where
   above-zero : Accepted r → Charging r → 0 < current
   above-zero h c =
       let fast : 0 < fastAt r =
-          some-share (settingOf 2 r) (chargeClamp r) (shareIn (bandAt r) r) (ichg-least r h)
-          (clamp-least r h (λ z. c .permitted .pinned (inr z))) (share-least (bandAt r) r (c .mild)) in
+      some-share (settingOf 2 r) (chargeClamp r) (shareIn (bandAt r) r) (ichg-least r h)
+      (clamp-least r h (λ z. c .permitted .pinned (inr z))) (share-least (bandAt r) r (c .mild)) in
       let pre : 0 < settingOf 3 r = omega (arith, iprechg-least r h) in
       subst (λ n. 0 < n) (sym (current-is r)) (some-current (phaseAt r) (settingOf 3 r) (fastAt r) pre fast (held c))
 

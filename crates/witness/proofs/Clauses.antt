@@ -21,8 +21,8 @@ use Rattle.history.specs.Refused.{refusalIn, Accepted}
 use Rattle.third.proofs.Means.{Means, eqb-means, true-means, false-means, and-means, not-means, re-means}
 use Rattle.third.proofs.Crossings.{ok-means, over-means, good-means, short-means, low-means, pack-means}
 use Rattle.third.proofs.Cycling.{reached-means, any-means, done-means}
-use Rattle.third.proofs.Charges.{chargesAt}
-use Rattle.third.proofs.Charging.{allowed, allowed-means, faulty, fault-means, suspended-means, tests-mean}
+use Rattle.third.proofs.Charges.{faulty, chargesAt}
+use Rattle.third.proofs.Charging.{allowed, allowed-means, fault-means, suspended-means, tests-mean}
 use Rattle.witness.specs.Days.{day, slow, unattended, mild, packs, inputs, stays}
 use Rattle.witness.specs.Clauses.{Part, goodInput, permission, noFault, noSuspension, notDone, noLimit, partOf, stopped, placeOf, Clause, part, okInput, overInput, shorted, lowPack, overPack, reached, ended, charges, inTrickle, inPrecharge, otherwise, clamped, clauseOf, meeting, failing, Tried, EachTried, EachAlone}
 
