@@ -12,29 +12,20 @@ use Rattle.settings.specs.Ranges.{ranges, rangeOf, mayHold}
 use Rattle.fields.specs.Rows.{fields, fieldsAt, takenOf, resetByte}
 use Rattle.sense.specs.Bits.{regulatedOf}
 use Rattle.valid.specs.Holds.{profileOk, sampleOk}
-use Rattle.history.specs.History.{Later, Run, powered, _▸_, since, sumAfter, count, upTo}
+use Rattle.history.specs.History.{Run, since, sumAfter, count, upTo}
 use Rattle.history.specs.Held.{profileOf, sampleOf, elapsed, wasObserved, wasReset, wasServed, unserved, expired, ichg, overridden, cellsOf, byteOf}
 use Rattle.history.specs.Valued.{pinFault, startValue, settingOf}
 use Rattle.history.specs.Judged.{vbat, packClamp, baseAt, inputOk, inputOver, inputGood, short, low, packOver, bandAt, suspended, chargeVoltage, permitted, tapering, rechargeDue, ending}
 use Rattle.history.specs.Cycles.{Stage, trickle, precharge, fast, limitOf, reaches, unitsOf, gave, isDone, wasDone, restarts, starts, timeIn, timeFound, limitFound, fault, chargeEnds, phaseBy, limitReached, phasesOf, phaseAt}
-use Rattle.history.specs.Refused.{refusalIn, Accepted}
-use Rattle.third.proofs.Means.{Means, eqb-means, true-means, false-means, and-means, not-means, re-means}
+use Rattle.history.specs.Refused.{refusalIn}
+use Rattle.third.proofs.Means.{Means, false-means, and-means, not-means, re-means}
 use Rattle.third.proofs.Crossings.{ok-means, over-means, good-means, short-means, low-means, pack-means}
 use Rattle.third.proofs.Cycling.{reached-means, any-means, done-means}
 use Rattle.third.proofs.Charges.{faulty, chargesAt}
 use Rattle.third.proofs.Charging.{allowed, allowed-means, fault-means, suspended-means, tests-mean}
 use Rattle.witness.specs.Days.{day, slow, unattended, mild, packs, inputs, stays}
 use Rattle.witness.specs.Clauses.{Part, goodInput, permission, noFault, noSuspension, notDone, noLimit, partOf, stopped, placeOf, Clause, part, okInput, overInput, shorted, lowPack, overPack, reached, ended, charges, inTrickle, inPrecharge, otherwise, clamped, clauseOf, meeting, failing, Tried, EachTried, EachAlone}
-
--- whether a run's events are accepted
-unfoldable accepts : Run → Bool
-accepts (powered p) = profileOk p
-accepts (r ▸ e) = accepts r && eqb (refusalIn r e) 0
-
-accepts-means : (r : Run) → Means (accepts r) (Accepted r)
-unfolding accepts
-accepts-means (powered p) = true-means (profileOk p)
-accepts-means (r ▸ e) = and-means (accepts-means r) (eqb-means (refusalIn r e) 0)
+use Rattle.witness.proofs.Accepting.{accepts, accepts-means}
 
 -- the test of each part and of each clause
 abbrev partTest : Part → Run → Bool

@@ -1,3 +1,5 @@
 -- The laws of the crate `witness`.
+pub mod Accepting
 pub mod Rows
 pub mod Clauses
+pub mod Wrong
