@@ -2,32 +2,27 @@
 use Prim.Native.Nat.{ℕ, _*_, _≤_, _<_}
 use native.Mathlib.Omega.{arith}
 use mathlib.Core.Path.{_≡_, refl, sym, ap, _∙_, subst}
-use mathlib.Core.List.{List}
 use mathlib.Core.Logic.{inr}
 use mathlib.Core.Bool.{Bool, true, false}
 use Rattle.base.specs.Pick.{pick}
 use Rattle.parts.specs.Pins.{ichgOf}
 use Rattle.parts.specs.declared.profile.Profile.{Profile}
-use Rattle.parts.specs.declared.state.State.{State}
-use Rattle.parts.specs.declared.state.Model.the-variants.{On}
 use Rattle.phases.specs.Order.{charging}
 use Rattle.shown.specs.Report.{currentIn, reportOf}
 use Rattle.charger.specs.Steps.{stepOf}
-use Rattle.charger.specs.Pages.{wholeOf}
 use Rattle.history.specs.History.{Later, asEvent, Run, powered, _▸_}
 use Rattle.history.specs.Held.{profileOf, ichg, overridden}
 use Rattle.history.specs.Valued.{settingOf}
 use Rattle.history.specs.Judged.{chargeClamp, bandAt, shareIn, short, low, tapering}
 use Rattle.history.specs.Cycles.{phaseAt}
-use Rattle.history.specs.Refused.{Accepted, some}
+use Rattle.history.specs.Refused.{Accepted}
 use Rattle.history.specs.States.{stateOf, modelOf}
-use Rattle.history.specs.Runs.{runOf, Lawful, logged}
+use Rattle.history.specs.Runs.{runOf, Lawful}
 use Rattle.history.proofs.Past.{phase-keeps-rule}
 use Rattle.history.proofs.Agreeing.{account-is-model}
 use Rattle.history.proofs.Logging.{every-log}
 use Rattle.third.specs.Crossed.{Short, Low}
 use Rattle.third.specs.Demand.{Charging, Bounded, Third, ranBy, ThirdDemand, ThirdOfLogs}
-use Rattle.third.proofs.Means.{Means}
 use Rattle.third.proofs.Crossings.{short-means, low-means}
 use Rattle.third.proofs.Charges.{stage-is}
 use Rattle.third.proofs.Charging.{charging-means}

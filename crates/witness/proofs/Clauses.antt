@@ -1,5 +1,5 @@
 -- Each clause of demand 3 at the run that meets it and the run that doesn't: its test is computed, and the test means the clause.
-use Prim.Native.Nat.{ℕ, _*_}
+use Prim.Native.Nat.{ℕ}
 use mathlib.Core.Path.{_≡_, refl, sym, ap, _∙_}
 use mathlib.Core.List.{List, [], _∷_}
 use mathlib.Core.Bool.{Bool, true, false, not, _&&_, true≢false}
@@ -16,7 +16,7 @@ use Rattle.history.specs.History.{Run, since, sumAfter, count, upTo}
 use Rattle.history.specs.Held.{profileOf, sampleOf, elapsed, wasObserved, wasReset, wasServed, unserved, expired, ichg, overridden, cellsOf, byteOf}
 use Rattle.history.specs.Valued.{pinFault, startValue, settingOf}
 use Rattle.history.specs.Judged.{vbat, packClamp, baseAt, inputOk, inputOver, inputGood, short, low, packOver, bandAt, suspended, chargeVoltage, permitted, tapering, rechargeDue, ending}
-use Rattle.history.specs.Cycles.{Stage, trickle, precharge, fast, limitOf, reaches, unitsOf, gave, isDone, wasDone, restarts, starts, timeIn, timeFound, limitFound, fault, chargeEnds, phaseBy, limitReached, phasesOf, phaseAt}
+use Rattle.history.specs.Cycles.{trickle, precharge, fast, limitOf, reaches, unitsOf, gave, isDone, wasDone, restarts, starts, timeIn, timeFound, limitFound, fault, chargeEnds, phaseBy, limitReached, phasesOf, phaseAt}
 use Rattle.history.specs.Refused.{refusalIn}
 use Rattle.third.proofs.Means.{Means, false-means, and-means, not-means, re-means}
 use Rattle.third.proofs.Crossings.{ok-means, over-means, good-means, short-means, low-means, pack-means}
@@ -24,7 +24,7 @@ use Rattle.third.proofs.Cycling.{reached-means, any-means, done-means}
 use Rattle.third.proofs.Charges.{faulty, chargesAt}
 use Rattle.third.proofs.Charging.{allowed, allowed-means, fault-means, suspended-means, tests-mean}
 use Rattle.witness.specs.Days.{day, slow, unattended, mild, packs, inputs, stays}
-use Rattle.witness.specs.Clauses.{Part, goodInput, permission, noFault, noSuspension, notDone, noLimit, partOf, stopped, placeOf, Clause, part, okInput, overInput, shorted, lowPack, overPack, reached, ended, charges, inTrickle, inPrecharge, otherwise, clamped, clauseOf, meeting, failing, Tried, EachTried, EachAlone}
+use Rattle.witness.specs.Clauses.{Part, goodInput, permission, noFault, noSuspension, notDone, noLimit, partOf, stopped, placeOf, Clause, part, okInput, overInput, shorted, lowPack, overPack, reached, ended, charges, inTrickle, inPrecharge, otherwise, clamped, clauseOf, meeting, failing, EachTried, EachAlone}
 use Rattle.witness.proofs.Accepting.{accepts, accepts-means}
 
 -- the test of each part and of each clause

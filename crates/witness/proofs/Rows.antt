@@ -1,5 +1,5 @@
 -- The account's rows, each computed.
-use mathlib.Core.Path.{_≡_, refl}
+use mathlib.Core.Path.{refl}
 use Rattle.base.specs.Units.{inPack, belowShare}
 use Rattle.start.specs.Values.{startVreg, startIchg, startVsysmin, startSettings}
 use Rattle.settings.specs.Numbered.{settingNumbers, heldOf}

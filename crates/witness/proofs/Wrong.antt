@@ -1,5 +1,5 @@
 -- Demand 3 is broken by each of these models.
-use Prim.Native.Nat.{ℕ, _<_}
+use Prim.Native.Nat.{_<_}
 use native.Mathlib.Omega.{arith}
 use mathlib.Core.Path.{_≡_, refl, sym, ap, _∙_, subst}
 use mathlib.Core.Bool.{true}
@@ -28,13 +28,12 @@ use Rattle.history.specs.States.{settingsAt, registersAt, latchesAt, watchdogAt
 use Rattle.history.specs.Runs.{runOf}
 use Rattle.history.proofs.Agreeing.{account-is-model}
 use Rattle.third.specs.Demand.{Charging, Third, ranBy, ThirdDemand}
-use Rattle.third.proofs.Means.{Means}
 use Rattle.third.proofs.Cycling.{reached-means}
 use Rattle.third.proofs.Charges.{chargesAt}
 use Rattle.third.proofs.Charging.{tests-mean}
 use Rattle.third.proofs.Third.{third-of}
 use Rattle.witness.specs.Days.{pack, seen, day}
-use Rattle.witness.specs.Clauses.{charges, Tried}
+use Rattle.witness.specs.Clauses.{charges}
 use Rattle.witness.specs.Wrong.{refusing, RefusingBreaks, zeros, ZerosBreak, firstOnly, FirstOnlyBreaks, timeless, forgotten, forgetting, ForgettingBreaks}
 use Rattle.witness.proofs.Accepting.{accepts, accepts-means}
 use Rattle.witness.proofs.Clauses.{each-tried}

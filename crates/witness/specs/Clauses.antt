@@ -1,16 +1,16 @@
 -- For each clause of demand 3 a run that meets it and one that doesn't.
 use Prim.Native.Nat.{ℕ}
 use mathlib.Core.Path.{_≡_}
-use mathlib.Core.Bool.{Bool, true, false}
+use mathlib.Core.Bool.{false}
 use lib.Dec.{eqb}
-use Rattle.history.specs.History.{set, Run, powered, _▸_}
+use Rattle.history.specs.History.{set, Run, _▸_}
 use Rattle.history.specs.Held.{ichg, overridden}
 use Rattle.history.specs.Cycles.{Stage, trickle, precharge, fast}
 use Rattle.history.specs.Refused.{Accepted}
 use Rattle.third.specs.Crossed.{InputOk, InputOver, InputGood, Short, Low, PackOver}
 use Rattle.third.specs.Stages.{Reached, Done}
 use Rattle.third.specs.Demand.{Permitted, Fault, Suspending, Charging}
-use Rattle.witness.specs.Days.{pack, sees, seen, dayAt, slow, unattended, mild, packs, inputs, stays}
+use Rattle.witness.specs.Days.{sees, dayAt, slow, unattended, mild, packs, inputs, stays}
 
 -- "the input is good, charge is permitted, no fault or suspending temperature holds, the cycle isn't done, and no stage with a limit has reached it"
 pub data Part : Type 0 where

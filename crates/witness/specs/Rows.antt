@@ -5,12 +5,12 @@ use mathlib.Core.List.{List, [], _∷_}
 use mathlib.Core.Bool.{Bool, true, false}
 use Rattle.base.specs.Volts.{millivoltsOf}
 use Rattle.shown.specs.Report.{reportOf}
-use Rattle.history.specs.History.{Run, powered}
+use Rattle.history.specs.History.{Run}
 use Rattle.history.specs.Held.{expired}
 use Rattle.history.specs.Cycles.{trickle, precharge, fast, numberAt, isDone, limitReached, phaseAt}
 use Rattle.history.specs.States.{stateOf}
 use Rattle.third.specs.Stages.{cycleStart, timeRun}
-use Rattle.witness.specs.Days.{pack, dayAt, slow, unattended, mild}
+use Rattle.witness.specs.Days.{dayAt, slow, unattended, mild}
 
 -- phase, current and voltage; where the cycle started and each stage's time in it; done, a limit reached, the watchdog expired
 pub record Told : Type 0 where
