@@ -1,0 +1,2 @@
+-- The law of the crate `rows`.
+pub mod Holds

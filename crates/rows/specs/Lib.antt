@@ -1,0 +1,3 @@
+-- The definitions of the crate `rows`.
+pub mod Cases
+pub mod Rows

@@ -1,0 +1,1 @@
+// The rows of the paper, each worked out, are in specs and proofs: there is no code here.
