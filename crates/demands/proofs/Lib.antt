@@ -1,0 +1,2 @@
+-- The laws of the crate `demands`.
+pub mod Firsts

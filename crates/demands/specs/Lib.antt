@@ -1,0 +1,3 @@
+-- The definitions of the crate `demands`.
+pub mod First
+pub mod Ours
