@@ -5,3 +5,6 @@ pub mod Reported
 pub mod Printed
 pub mod Second
 pub mod Ours
+pub mod Wrong
+pub mod Slips
+pub mod Refuted
