@@ -3,3 +3,4 @@ pub mod Firsts
 pub mod Reports
 pub mod Prints
 pub mod Spells
+pub mod Refutes

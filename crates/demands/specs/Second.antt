@@ -14,10 +14,9 @@ use Rattle.record.specs.Records.{met}
 use Rattle.steplaws.specs.Rows.{Row}
 use Rattle.history.specs.History.{Run}
 use Rattle.history.specs.Refused.{Accepted, Past}
-use Rattle.history.specs.States.{stateOf, modelOf}
+use Rattle.history.specs.States.{stateOf, modelOf, outcomeOf}
 use Rattle.history.specs.Runs.{Lawful}
 use Rattle.demands.specs.First.{Step, Reader, Writer}
-use Rattle.demands.specs.Outcomes.{outcomeOf}
 use Rattle.demands.specs.Printed.{Reporter, Printed, printedBy}
 use Rattle.demands.specs.Reported.{reportAt}
 
