@@ -1,6 +1,7 @@
 -- The laws of the crate `demands`.
 pub mod Firsts
-pub mod Reports
-pub mod Prints
-pub mod Spells
+mod Reports
+mod Prints
+mod Spells
+pub mod Seconds
 pub mod Refutes
