@@ -27,9 +27,9 @@ use Rattle.charger.specs.Steps.{stepOf}
 use Rattle.charger.proofs.Keeps.{refused-leaves}
 use Rattle.steplaws.specs.Rows.{Among}
 use Rattle.steplaws.proofs.Given.{number-known}
-use Rattle.demands.specs.First.{ReadAt, event, unreadable, end, WrittenIn, FirstDemand}
+use Rattle.demands.specs.First.{ReadAt, event, unreadable, end, WrittenIn}
 use Rattle.demands.specs.First as told
-use Rattle.demands.specs.Ours.{ourRead, ourWrite}
+use Rattle.demands.specs.Ours.{ourRead, ourWrite, FirstHolds}
 
 -- a refusal's number, where one is given, is 1 to 3
 data Known {A : Type 0} : Found A → Type 0 where
@@ -112,8 +112,8 @@ puts bytes buffer = by (leb (length bytes) (length buffer)) refl
         told.written (length bytes) (bytes ++ drop (length bytes) buffer) room (length-append bytes (drop (length bytes) buffer) ∙ omega (arith, length-drop (length bytes) buffer)) (drop-append-seam bytes (drop (length bytes) buffer))
     by false short = told.no-room
 
-pub first-demand : FirstDemand stepOf ourRead ourWrite
-first-demand = record {
+pub first-holds : FirstHolds
+first-holds = record {
   steps = λ m e. record { number = number-known m e; refused = refused-leaves m e };
   reads = reads;
   writes = λ e buffer. puts (spellEvent e) buffer;

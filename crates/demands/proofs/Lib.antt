@@ -4,4 +4,7 @@ mod Reports
 mod Prints
 mod Spells
 pub mod Seconds
-pub mod Refutes
+pub mod Thirds
+mod Days
+pub mod RefutesFirst
+pub mod RefutesSecond

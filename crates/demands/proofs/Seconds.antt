@@ -1,16 +1,13 @@
 -- Demand 2 holds of this product.
-use Rattle.shown.specs.Report.{reportOf}
-use Rattle.charger.specs.Steps.{stepOf}
 use Rattle.steplaws.proofs.Given.{each-given}
 use Rattle.history.proofs.Agreeing.{outcome-is-step}
-use Rattle.demands.specs.Second.{SecondDemand}
-use Rattle.demands.specs.Ours.{ourRun, ourRead, ourWrite}
+use Rattle.demands.specs.Ours.{SecondHolds}
 use Rattle.demands.proofs.Prints.{prints}
 use Rattle.demands.proofs.Reports.{reports-are}
 use Rattle.demands.proofs.Spells.{spells}
 
-pub second-demand : SecondDemand stepOf reportOf ourRun ourRead ourWrite
-second-demand = record {
+pub second-holds : SecondHolds
+second-holds = record {
   refuses = each-given;
   moves = outcome-is-step;
   reports = λ r accepted. reports-are r;

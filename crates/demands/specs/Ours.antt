@@ -1,13 +1,15 @@
--- This product, as the demands take it: the definitions that the promises of its public calls cite.
+-- This product, as the demands take it: the definitions that the promises of its public calls cite. And what is proved of it.
 use mathlib.Core.List.{List}
 use Rattle.base.specs.Writing.{put, written}
 use Rattle.event.specs.Kinds.{kinds}
 use Rattle.record.specs.Records.{spellEvent, recordAt}
+use Rattle.shown.specs.Report.{reportOf}
+use Rattle.charger.specs.Steps.{stepOf}
 use Rattle.charger.specs.Pages.{wholeOf, endOf}
-use Rattle.demands.specs.First.{Reader, Writer}
-use Rattle.demands.specs.Second.{Runner}
+use Rattle.third.specs.Demand.{ThirdDemand}
+use Rattle.demands.specs.First.{Reader, Writer, FirstDemand}
+use Rattle.demands.specs.Second.{Runner, SecondDemand}
 
--- the step is `stepOf` and the report `reportOf`
 abbrev pub ourRun : Runner
 ourRun bytes = record { lines = wholeOf bytes .lines; last = endOf bytes }
 
@@ -16,3 +18,13 @@ ourRead = recordAt kinds
 
 abbrev pub ourWrite : Writer
 ourWrite e buffer = (written (spellEvent e) buffer, put (spellEvent e) buffer)
+
+-- the three demands hold
+abbrev pub FirstHolds : Type 0
+FirstHolds = FirstDemand stepOf ourRead ourWrite
+
+abbrev pub SecondHolds : Type 0
+SecondHolds = SecondDemand stepOf reportOf ourRun ourRead ourWrite
+
+abbrev pub ThirdHolds : Type 0
+ThirdHolds = ThirdDemand stepOf reportOf

@@ -3,14 +3,21 @@ use Prim.Native.Nat.{ℕ}
 use mathlib.Core.List.{List}
 use Rattle.base.specs.declared.refusal.Refusal.{Refusal}
 use Rattle.shown.specs.Report.{reportOf}
-use Rattle.charger.specs.Steps.{stepOf}
-use Rattle.demands.specs.First.{Step, Reader, Writer}
+use Rattle.third.specs.Demand.{ThirdDemand}
+use Rattle.demands.specs.First.{Step, Reader, Writer, FirstDemand}
 use Rattle.demands.specs.Printed.{Reporter}
 use Rattle.demands.specs.Second.{Runner, SecondDemand}
-use Rattle.demands.specs.Ours.{ourRun, ourRead}
-use Rattle.demands.specs.Wrong.{refusesAlways, reportsZeros, ignoresEvents, worksOnce, inventsTimes, inventsCounts, writesConstant}
+use Rattle.demands.specs.Ours.{ourRead}
+use Rattle.demands.specs.Wrong.{forgets, stopsAlways, spills, refusesAlways, reportsZeros, ignoresEvents, worksOnce, inventsTimes, inventsCounts, writesConstant}
 use Rattle.demands.specs.Slips.{sameWrite, scalesPrecharge, timesAfter, judgesCool}
 
+-- demand 1: "a refused event changes neither the model nor a lent buffer", "every byte string gets an answer"
+pub record FirstRefuted : Type 0 where
+  pub forgotten : (read : Reader) (write : Writer) → ¬ FirstDemand forgets read write
+  pub stopped : (step : Step) (write : Writer) → ¬ FirstDemand step stopsAlways write
+  pub spilt : (step : Step) (read : Reader) → ¬ FirstDemand step read spills
+
+-- demand 2, of a step, a report, a run or a writer
 abbrev pub StepBreaks : Step → Type 0
 StepBreaks step = (report : Reporter) (run : Runner) (read : Reader) (write : Writer) → ¬ SecondDemand step report run read write
 
@@ -23,20 +30,25 @@ RunBreaks run = (step : Step) (report : Reporter) (write : Writer) → ¬ Second
 abbrev pub WriteBreaks : Writer → Type 0
 WriteBreaks write = (step : Step) (report : Reporter) (run : Runner) (read : Reader) → ¬ SecondDemand step report run read write
 
--- "A model that refuses always, reports zeros always or ignores events breaks demand 2; one that works only on the first event breaks 2 .. over runs; invented .. record counts
--- break .. 2's definition of a run. A constant log writer breaks 2's reading back."
-pub record WrongBreak : Type 0 where
+pub record SecondRefuted : Type 0 where
+  -- "A model that refuses always, reports zeros always or ignores events breaks demand 2;"
   pub refuses : (r : Refusal) → StepBreaks (refusesAlways r)
   pub zeros : ReportBreaks reportsZeros
   pub ignores : StepBreaks ignoresEvents
+  -- "one that works only on the first event breaks 2 and 3 over runs;"
   pub once : StepBreaks worksOnce
+  -- "invented stage times or record counts break 3's sums and 2's definition of a run."
   pub times : (time : ℕ) → StepBreaks (inventsTimes time)
   pub counts : (count : ℕ) → RunBreaks (inventsCounts count)
+  -- "A constant log writer breaks 2's reading back."
   pub constant : (bytes : List ℕ) → WriteBreaks (writesConstant bytes)
-
--- "Using a CELL_PIN override from the same write; scaling precharge by ICHG's band share; charging time to the phase after the sample; judging cool before cold."
-pub record SlipsBreak : Type 0 where
+  -- "Slips to exclude": "Using a CELL_PIN override from the same write; scaling precharge by ICHG's band share; charging time to the phase after the sample; judging cool before cold."
   pub written : StepBreaks sameWrite
   pub scaled : ReportBreaks scalesPrecharge
   pub timed : StepBreaks timesAfter
   pub cooled : StepBreaks judgesCool
+
+-- demand 3: "one that works only on the first event", whatever it reports; and "invented stage times": here, times that never run
+pub record ThirdRefuted : Type 0 where
+  pub once : (report : Reporter) → ¬ ThirdDemand worksOnce report
+  pub times : ¬ ThirdDemand (inventsTimes 0) reportOf

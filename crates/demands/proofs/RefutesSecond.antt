@@ -1,40 +1,23 @@
 -- Each wrong product and each slip breaks demand 2: a history, a run or a log at which it and the account come to different numbers.
-use Prim.Native.Nat.{ℕ, zero, suc, _+_, _≤_, _<_}
+use Prim.Native.Nat.{ℕ, _≤_}
 use mathlib.Core.Path.{_≡_, refl, sym, ap, _∙_}
 use mathlib.Core.List.{List, [], _∷_, _++_}
 use native.Mathlib.Omega.{arith}
-use lib.IntN.{pos}
 use lib.ListN.{length, drop, getD, length-append}
 use Rattle.base.specs.Refusals.{refusalNumber}
-use Rattle.base.specs.Writing.{Wrote, wrote, written, put}
-use Rattle.base.specs.declared.refusal.Refusal.{Refusal}
-use Rattle.parts.specs.Numbers.{phaseNumber, bandNumber}
-use Rattle.parts.specs.declared.profile.Profile.{Profile}
-use Rattle.parts.specs.declared.sample.Sample.{Sample}
-use Rattle.parts.specs.declared.state.State.{State}
-use Rattle.parts.specs.declared.state.Model.{Model}
-use Rattle.parts.specs.declared.state.Model.the-variants.{Off, On}
-use Rattle.number.specs.Promises.{Bytes}
-use Rattle.event.specs.Events.{kindOf}
-use Rattle.event.specs.Kinds.{kindByte}
-use Rattle.event.specs.declared.Event.{Event}
-use Rattle.event.specs.declared.Event.the-variants.{PowerOn, Write, TakeFlags, Observe, Service, Reset}
-use Rattle.record.specs.Records.{Met, met, refused, end}
-use Rattle.moves.specs.Plain.{Outcome}
-use Rattle.shown.specs.declared.answer.Report.{Report}
-use Rattle.charger.proofs.Numbered.{some-number}
-use Rattle.demands.specs.First.{Step, Reader, Writer}
-use Rattle.demands.specs.Printed.{Reporter, Printed}
-use Rattle.demands.specs.Second.{Runner, OneSpelling}
-use Rattle.demands.specs.Refuted.{WriteBreaks}
-use Rattle.demands.specs.Wrong.{writesConstant}
+use Rattle.base.specs.Writing.{Wrote}
 use Rattle.base.specs.Units.{inPack, belowShare}
+use Rattle.parts.specs.Numbers.{phaseNumber, bandNumber}
+use Rattle.parts.specs.declared.state.State.{State}
 use Rattle.parts.specs.Edges.{merged, pulseOf, flagsNumber}
 use Rattle.number.specs.Number.{readNumber, readGroups}
-use Rattle.event.specs.Events.{eventOf}
+use Rattle.event.specs.Events.{kindOf, eventOf}
+use Rattle.event.specs.Kinds.{kindByte}
+use Rattle.event.specs.declared.Event.{Event}
+use Rattle.event.specs.declared.Event.the-variants.{PowerOn, Write, Observe, Service, Reset}
 use Rattle.event.specs.Ibat.{signedOf}
+use Rattle.record.specs.Records.{Met, met, refused, end, recordAt, readRecord}
 use Rattle.record.specs.Items.{readItems}
-use Rattle.record.specs.Records.{recordAt, readRecord}
 use Rattle.start.specs.Values.{startOf, startSettings, startVsysmin, startVreg, startIchg}
 use Rattle.settings.specs.Kept.{settingsOk}
 use Rattle.settings.specs.Numbered.{storeOf, heldOf, settingNumbers}
@@ -55,34 +38,35 @@ use Rattle.bands.specs.Effect.{shareOf, cutOf, suspendsOf}
 use Rattle.bands.specs.Thresholds.{bandOf}
 use Rattle.phases.specs.Cycles.{cycleOf}
 use Rattle.phases.specs.Order.{phaseOf, clearsOf, endsOf, judgedOf, restartsOf}
+use Rattle.shown.specs.declared.answer.Report.{Report}
 use Rattle.shown.specs.Lines.{lineOf}
 use Rattle.shown.specs.Report.{fastCurrent, reportOf, chargeClampOf, inputLimitOf}
 use Rattle.judge.specs.Gather.{testsOf}
 use Rattle.judge.specs.Settle.{settledOf, settleOf, forcedOf}
 use Rattle.edges.specs.Edges.{edgesOf, seenOf, expiresOf, phaseChanges, bandChanges, reachesOf}
 use Rattle.edges.specs.Expiry.{expiredOf}
+use Rattle.moves.specs.Plain.{Outcome, powerOnOf, setOf, writeEventOf, takeFlagsOf, serviceOf, resetEventOf, poweredOf}
 use Rattle.moves.specs.Finish.{finishOf, withFlags}
-use Rattle.moves.specs.Plain.{powerOnOf, setOf, writeEventOf, takeFlagsOf, serviceOf, resetEventOf, poweredOf}
+use Rattle.charger.proofs.Numbered.{some-number}
 use Rattle.charger.specs.Clock.{observedOf, timesOf, unitsOf, countedOf, clearedIf}
 use Rattle.charger.specs.Pages.{wholeOf, pageOf}
 use Rattle.charger.specs.Steps.{stepOf, firstOf, movedOf, observeOf}
 use Rattle.charger.specs.Walks.{startWalk, walkOf, metBy}
+use Rattle.history.specs.History.{powered, count, since, sumAfter}
+use Rattle.history.specs.Refused.{Past, none, some, refusalOf, nextOf, refusalIn}
 use Rattle.history.specs.Cycles.{phaseAt, phasesOf, phaseBy, timeIn, isDone, fault, wasDone, chargeEnds, starts, gave, limitReached, limitFound, restarts, unitsOf as unitsOfHistory, timeFound}
 use Rattle.history.specs.Flagged.{pulsed, handedBack, flagged, edge, wasTaken}
 use Rattle.history.specs.Held.{cellsOf, profileOf, sampleOf, overridden, byteOf, unserved, expired, elapsed, wasReset, wasServed, wasObserved}
-use Rattle.history.specs.History.{Run, powered, _▸_, observe, count, since, sumAfter}
 use Rattle.history.specs.Judged.{chargeVoltage, chargeClamp, bandAt, baseAt, packClamp, inputOk, inputOver, short, low, packOver, permitted, suspended, rechargeDue, tapering, vbat, inputGood, ending}
-use Rattle.history.specs.Refused.{Past, none, some, refusalOf, nextOf, refusalIn}
 use Rattle.history.specs.States.{outcomeOf, stateBy, settingsAt, registersAt, latchesAt, cycleAt, watchdogAt, flagsAt}
 use Rattle.history.specs.Valued.{settingOf, pinFault, startValue}
-use Rattle.demands.specs.Printed.{printedBy, logFrom, linesBy, lineBy}
-use Rattle.demands.specs.Refuted.{WrongBreak, SlipsBreak}
+use Rattle.demands.specs.Printed.{Printed, printedBy, logFrom, linesBy, lineBy}
+use Rattle.demands.specs.Refuted.{WriteBreaks, SecondRefuted}
+use Rattle.demands.specs.Wrong.{writesConstant, refusesAlways, reportsZeros, ignoresEvents, worksOnce, inventsTimes, inventsCounts}
+use Rattle.demands.proofs.Days.{paper, seen, sampled, first, cool, held, differ, no-byte, one-byte}
 use Rattle.demands.specs.Reported.{reportAt, fastAt, limitAt}
-use Rattle.demands.specs.Second.{SecondDemand}
 use Rattle.demands.specs.Slips.{sameWrite, scalesPrecharge, timesAfter, judgesCool, coolFirst}
-use Rattle.demands.specs.Wrong.{refusesAlways, reportsZeros, ignoresEvents, worksOnce, inventsTimes, inventsCounts}
 
--- ---- a constant writer: two events can't both have its bytes for their spelling
 abbrev kindMet : Met → ℕ
 kindMet (met e next) = kindByte (kindOf e)
 kindMet (refused n place) = 0
@@ -91,6 +75,7 @@ kindMet end = 0
 abbrev after : Wrote × List ℕ → List ℕ
 after w = w .1
 
+-- a constant writer: two events can't both have its bytes for their spelling
 constant-breaks : (bytes : List ℕ) → WriteBreaks (writesConstant bytes)
 unfolding writesConstant
 constant-breaks bytes step report run read d =
@@ -99,58 +84,45 @@ constant-breaks bytes step report run read d =
     let room = a .spelling ++ b .spelling in
     let long = length-append (a .spelling) (b .spelling) in
     let same = ap after (sym (a .written room (omega arith)) ∙ b .written room (omega arith)) in
-    let served = a .reads-back (drop (length (a .spelling)) room) in
+    let serviced = a .reads-back (drop (length (a .spelling)) room) in
     let reset = b .reads-back (drop (length (b .spelling)) room) in
-    let z : _≡_ {A = ℕ} 6 7 = ap kindMet (sym served ∙ ap (λ l. read l 0) same ∙ reset) in
-    absurd (omega arith)
+    differ 6 7 refl (ap kindMet (sym serviced ∙ ap (λ l. read l 0) same ∙ reset))
 
--- ---- the others, at runs and logs of a few events
-one-byte : Bytes (4 ∷ [])
-one-byte zero = omega arith
-one-byte (suc i) = omega arith
+-- what is looked at: the model, a number of its state, a report's current, how many records were read
+abbrev of : (State → ℕ) → Outcome → ℕ
+of f o = held f (o .model)
 
-no-byte : Bytes []
-no-byte i = omega arith
+abbrev current : Report → ℕ
+current q = q .current
 
-abbrev paper : Profile
-paper = record { cell = 2; vchg = 5; ichg = 4; ohms = 0; stamp = 0; ceiling = 4500; trickle = 3600; precharge = 7200; fast = 36000; watchdog = 0 }
-
-abbrev seen : ℕ → ℕ → ℕ → Sample
-seen stamp pack ts = record { stamp = stamp; input = 12000; pack = pack; ibat = pos 0; ts = ts; bits = 0 }
-
--- what is looked at
-abbrev asked : (State → ℕ) → Outcome → ℕ
-asked f o = by (o .model)
-  where
-    by : Model → ℕ
-    by Off = 0
-    by (On s) = f s
+abbrev counted : Printed → ℕ
+counted p = getD (p .last) 0 0
 
 abbrev start : Past
 start = some (powered paper)
 
-pub breaks : WrongBreak × SlipsBreak
+pub second-refuted : SecondRefuted
 unfolding outcomeOf stepOf reportAt refusesAlways reportsZeros ignoresEvents worksOnce inventsTimes inventsCounts sameWrite scalesPrecharge timesAfter judgesCool printedBy refusalOf nextOf firstOf stateOk movedOf phaseAt settingOf fastAt chargeVoltage limitAt shareOf fastCurrent reportOf logFrom linesBy wholeOf stateBy powerOnOf profileOk settingsOk registersOk cycleOk watchdogOk sampleOk setOf writeEventOf takeFlagsOf observeOf serviceOf resetEventOf phasesOf count chargeClamp bandAt baseAt inPack cellsOf profileOf chargeClampOf chargeVoltageOf inputLimitOf finishOf coolFirst settledOf testsOf lineBy pageOf startWalk settingsAt registersAt latchesAt cycleAt watchdogAt sampleOf flagsAt pulsed handedBack refusalIn poweredOf mayHold storeOf writeOf withFlags observedOf resetOf phaseBy pinFault startValue overridden byteOf packClamp baseOf cutOf settleOf edgesOf merged pulseOf timesOf unitsOf bandOf cycleOf phaseOf permittedOf suspendsOf belowRecharge taperOf endingOf flagsNumber walkOf inputOk inputOver short low packOver timeIn isDone unserved flagged edge expired wasTaken elapsed startOf heldOf shownOf rangeOf writtenTo countedOf expiredOf clearedIf startSettings restored permitted fault suspended wasDone rechargeDue chargeEnds tapering startVsysmin resetByte takenOf packClampOf forcedOf latchesOf seenOf expiresOf phaseChanges bandChanges reachesOf regulatedOf clearsOf endsOf judgedOf faultOf reachedOf belowShare recordAt since vbat sumAfter starts gave wasReset wasServed inputGood limitReached settingNumbers fieldsAt ranges recounted placed byteAt startVreg startIchg limitFound wasObserved ending shortOf lowOf packOverOf restartsOf readRecord restarts unitsOfHistory fields timeFound metBy lineOf readItems eventOf signedOf readNumber readGroups
-breaks = (
-  record {
-    refuses = λ r report run read write d. let z : refusalNumber r ≡ 0 = ap (λ (o : Outcome). o .number) (d .moves none tt (PowerOn paper)) in absurd (omega (arith, some-number r));
-    zeros = λ step run read write d. let z : _≡_ {A = ℕ} 0 1500 = ap (λ (q : Report). q .current) (d .reports (powered paper ▸ observe (seen 1000 7600 55000)) (refl, refl)) in absurd (omega arith);
-    ignores = λ report run read write d. let z : _≡_ {A = ℕ} 0 1 = ap (asked (λ s. 1)) (d .moves none tt (PowerOn paper)) in absurd (omega arith);
-    once = λ report run read write d. let z : _≡_ {A = ℕ} 0 3 = ap (asked (λ s. phaseNumber (s .phase))) (d .moves start refl (Observe (seen 1000 7600 55000))) in absurd (omega arith);
-    times = λ time report run read write d.
-      let y : time ≡ 0 = ap (asked (λ s. s .cycle .fast)) (d .moves none tt (PowerOn paper)) in
-      let z : time ≡ 2000 = ap (asked (λ s. s .cycle .fast)) (d .moves (some (powered paper ▸ observe (seen 1000 7600 55000))) (refl, refl) (Observe (seen 2000 7600 55000))) in
+second-refuted = record {
+  refuses = λ r report run read write d.
+      let z : refusalNumber r ≡ 0 = ap (λ (o : Outcome). o .number) (d .moves none tt (PowerOn paper)) in
+      absurd (omega (arith, some-number r));
+  zeros = λ step run read write d. differ 0 1500 refl (ap current (d .reports first (refl, refl)));
+  ignores = λ report run read write d. differ 0 1 refl (ap (of (λ s. 1)) (d .moves none tt (PowerOn paper)));
+  once = λ report run read write d. differ 0 3 refl (ap (of (λ s. phaseNumber (s .phase))) (d .moves start refl (Observe sampled)));
+  times = λ time report run read write d.
+      let fast : Outcome → ℕ = of (λ s. s .cycle .fast) in
+      let y : time ≡ 0 = ap fast (d .moves none tt (PowerOn paper)) in
+      let z : time ≡ 2000 = ap fast (d .moves (some first) (refl, refl) (Observe (seen 2000 7600 55000))) in
       absurd (omega arith);
-    counts = λ count step report write d.
-      let y : count ≡ 0 = ap (λ (p : Printed). getD (p .last) 0 0) (d .prints [] no-byte (omega arith)) in
-      let z : count ≡ 1 = ap (λ (p : Printed). getD (p .last) 0 0) (d .prints (4 ∷ []) one-byte (omega arith)) in
+  counts = λ count step report write d.
+      let y : count ≡ 0 = ap counted (d .prints [] no-byte (omega arith)) in
+      let z : count ≡ 1 = ap counted (d .prints (4 ∷ []) one-byte (omega arith)) in
       absurd (omega arith);
-    constant = constant-breaks;
-  },
-  record {
-    written = λ report run read write d. let z : _≡_ {A = ℕ} 3 2 = ap (asked (λ s. s .registers .cells)) (d .moves start refl (Write 0x1B 0x43)) in absurd (omega arith);
-    scaled = λ step run read write d. let z : _≡_ {A = ℕ} 24 120 = ap (λ (q : Report). q .current) (d .reports (powered paper ▸ observe (seen 1000 5000 70000)) (refl, refl)) in absurd (omega arith);
-    timed = λ report run read write d. let z : _≡_ {A = ℕ} 2000 0 = ap (asked (λ s. s .cycle .fast)) (d .moves start refl (Observe (seen 1000 7600 55000))) in absurd (omega arith);
-    cooled = λ report run read write d. let z : _≡_ {A = ℕ} 3 1 = ap (asked (λ s. bandNumber (s .band))) (d .moves start refl (Observe (seen 1000 7600 80000))) in absurd (omega arith);
-  }
-)
+  constant = constant-breaks;
+  written = λ report run read write d. differ 3 2 refl (ap (of (λ s. s .registers .cells)) (d .moves start refl (Write 0x1B 0x43)));
+  scaled = λ step run read write d. differ 24 120 refl (ap current (d .reports cool (refl, refl)));
+  timed = λ report run read write d. differ 2000 0 refl (ap (of (λ s. s .cycle .fast)) (d .moves start refl (Observe sampled)));
+  cooled = λ report run read write d.
+      differ 3 1 refl (ap (of (λ s. bandNumber (s .band))) (d .moves start refl (Observe (seen 1000 7600 80000))));
+}
