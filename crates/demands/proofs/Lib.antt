@@ -8,3 +8,4 @@ pub mod Thirds
 mod Days
 pub mod RefutesFirst
 pub mod RefutesSecond
+pub mod RefutesThird

@@ -1,0 +1,85 @@
+-- Two wrong products break demand 3, at runs that charge and runs that don't by what is proved of this product's report.
+use Prim.Native.Nat.{ℕ, _<_}
+use mathlib.Core.Path.{_≡_, refl, sym, ap, subst, _∙_}
+use native.Mathlib.Omega.{arith}
+use Rattle.base.specs.Units.{inPack, belowShare}
+use Rattle.parts.specs.declared.state.State.{State}
+use Rattle.parts.specs.declared.state.Model.{Model}
+use Rattle.parts.specs.declared.state.Model.the-variants.{Off, On}
+use Rattle.parts.specs.Edges.{merged, pulseOf}
+use Rattle.event.specs.declared.Event.the-variants.{Observe}
+use Rattle.start.specs.Values.{startOf, startSettings, startVsysmin, startVreg, startIchg}
+use Rattle.settings.specs.Kept.{settingsOk}
+use Rattle.settings.specs.Numbered.{storeOf, heldOf, settingNumbers}
+use Rattle.settings.specs.Ranges.{mayHold, rangeOf, ranges}
+use Rattle.valid.specs.Holds.{sampleOk, stateOk, profileOk, registersOk, cycleOk, watchdogOk}
+use Rattle.fields.specs.Rows.{resetByte, takenOf, fieldsAt, shownOf, fields}
+use Rattle.registers.specs.Reads.{byteAt}
+use Rattle.registers.specs.Resets.{resetOf, restored}
+use Rattle.registers.specs.Writes.{writeOf, writtenTo, recounted, placed}
+use Rattle.levels.specs.Clamps.{baseOf, packClampOf, faultOf}
+use Rattle.levels.specs.Comparators.{latchesOf, shortOf, lowOf, packOverOf}
+use Rattle.levels.specs.Voltage.{chargeVoltageOf, belowRecharge, taperOf}
+use Rattle.sense.specs.Bits.{regulatedOf}
+use Rattle.sense.specs.Ending.{endingOf}
+use Rattle.sense.specs.Limits.{reachedOf}
+use Rattle.sense.specs.Permission.{permittedOf}
+use Rattle.bands.specs.Effect.{shareOf, cutOf, suspendsOf}
+use Rattle.bands.specs.Thresholds.{bandOf}
+use Rattle.phases.specs.Cycles.{cycleOf}
+use Rattle.phases.specs.Order.{phaseOf, clearsOf, endsOf, judgedOf, restartsOf}
+use Rattle.shown.specs.Report.{reportOf, fastCurrent, inputLimitOf, chargeClampOf}
+use Rattle.judge.specs.Gather.{testsOf}
+use Rattle.judge.specs.Settle.{settleOf, forcedOf, settledOf}
+use Rattle.edges.specs.Edges.{edgesOf, seenOf, expiresOf, phaseChanges, bandChanges, reachesOf}
+use Rattle.edges.specs.Expiry.{expiredOf}
+use Rattle.moves.specs.Finish.{finishOf, withFlags}
+use Rattle.moves.specs.Plain.{powerOnOf, setOf, writeEventOf, takeFlagsOf, serviceOf, resetEventOf, poweredOf}
+use Rattle.charger.specs.Clock.{observedOf, countedOf, clearedIf, timesOf, unitsOf as unitsOfCharger}
+use Rattle.charger.specs.Steps.{stepOf, firstOf, movedOf, observeOf}
+use Rattle.history.specs.History.{Run, powered, count, since, sumAfter}
+use Rattle.history.specs.Refused.{Accepted, refusalIn}
+use Rattle.history.specs.States.{stateOf, stateBy, settingsAt, registersAt, latchesAt, cycleAt, watchdogAt, flagsAt}
+use Rattle.history.proofs.Past.{phase-keeps-rule}
+use Rattle.history.specs.Cycles.{phaseAt, phasesOf, timeIn, isDone, phaseBy, starts, gave, fault, wasDone, chargeEnds, restarts, unitsOf, limitFound, limitReached, timeFound}
+use Rattle.history.specs.Flagged.{flagged, wasTaken, edge}
+use Rattle.history.specs.Held.{elapsed, profileOf, sampleOf, byteOf, cellsOf, overridden, unserved, expired, wasReset, wasServed, wasObserved}
+use Rattle.history.specs.Judged.{bandAt, inputOk, inputOver, short, low, packOver, vbat, baseAt, permitted, suspended, rechargeDue, tapering, packClamp, inputGood, ending, chargeVoltage}
+use Rattle.history.specs.Valued.{settingOf, pinFault, startValue}
+use Rattle.third.specs.Demand.{Charging, Third, ranBy}
+use Rattle.third.proofs.Third.{third-of}
+use Rattle.demands.specs.Printed.{Reporter}
+use Rattle.demands.specs.Refuted.{ThirdRefuted}
+use Rattle.demands.specs.Wrong.{worksOnce, inventsTimes}
+use Rattle.demands.proofs.Days.{paper, sampled, first, second, held}
+
+-- what this product reports after a run tells whether it charges
+charges : (r : Run) → Accepted r → 0 < reportOf (stateOf r) .current → Charging r
+charges r accepted some = third-of phase-keeps-rule r accepted .charges .0 some
+
+rests : (r : Run) → Accepted r → reportOf (stateOf r) .current ≡ 0 → Charging r → ⊥
+rests r accepted none c = let some = third-of phase-keeps-rule r accepted .charges .1 c in omega arith
+
+abbrev state : State → Model → State
+state s Off = s
+state s (On t) = t
+
+-- a product that works once is in one state at the power-on and after the sample
+stays : (s t : State) → ranBy worksOnce (powered paper) ≡ On s → ranBy worksOnce first ≡ On t → s ≡ t
+unfolding ranBy worksOnce
+stays s t on next = ap (state s) (sym (ap (λ m. worksOnce m (Observe sampled) .model) on) ∙ next)
+
+pub third-refuted : ThirdRefuted
+unfolding reportOf refusalIn inventsTimes ranBy fastCurrent chargeVoltageOf inputLimitOf stateBy phaseAt mayHold sampleOk elapsed stepOf chargeClampOf shareOf baseOf inPack cutOf profileOf settingsAt registersAt latchesAt cycleAt watchdogAt sampleOf bandAt flagsAt phasesOf count rangeOf firstOf stateOk movedOf packClampOf settingOf byteOf cellsOf overridden inputOk inputOver short low packOver timeIn isDone unserved flagged phaseBy ranges powerOnOf profileOk settingsOk registersOk cycleOk watchdogOk setOf writeEventOf takeFlagsOf observeOf serviceOf resetEventOf resetByte takenOf expired since vbat belowShare baseAt sumAfter starts gave wasReset wasServed wasTaken permitted fault suspended wasDone rechargeDue chargeEnds tapering poweredOf finishOf storeOf writeOf withFlags observedOf resetOf pinFault startValue fieldsAt packClamp restarts unitsOf edge inputGood limitFound wasObserved ending chargeVoltage settleOf startOf heldOf shownOf edgesOf merged pulseOf writtenTo countedOf expiredOf clearedIf timesOf unitsOfCharger startSettings restored startVsysmin fields regulatedOf limitReached timeFound forcedOf latchesOf bandOf settledOf testsOf settingNumbers seenOf expiresOf phaseChanges bandChanges reachesOf recounted placed byteAt startVreg startIchg faultOf shortOf lowOf packOverOf cycleOf phaseOf permittedOf suspendsOf belowRecharge taperOf endingOf reachedOf clearsOf endsOf judgedOf restartsOf
+third-refuted = record {
+  once = λ report d.
+      let a = d (powered paper) refl in
+      let b = d first (refl, refl) in
+      let same = stays (a .0) (b .0) (a .1) (b .1) in
+      let some = b .2 .charges .1 (charges first (refl, refl) (omega arith)) in
+      rests (powered paper) refl refl (a .2 .charges .0 (subst (λ (s : State). 0 < report s .current) (sym same) some));
+  times = λ d.
+      let b = d second (((refl, refl), refl), refl) in
+      let told : 1500 ≡ reportOf (b .0) .current = ap (held (λ s. reportOf s .current)) (b .1) in
+      rests second (((refl, refl), refl), refl) refl (b .2 .charges .0 (omega arith));
+}
