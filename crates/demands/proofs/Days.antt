@@ -42,6 +42,10 @@ cool = powered paper ▸ observe (seen 1000 5000 70000)
 abbrev pub second : Run
 second = powered (limited 1) ▸ observe (seen 0 7600 55000) ▸ observe (seen 500 7600 55000) ▸ observe sampled
 
+-- with no limit for fast charge
+abbrev pub unlimited : Run
+unlimited = powered (limited 0) ▸ observe sampled
+
 -- a number of a model's state
 abbrev pub held : (State → ℕ) → Model → ℕ
 held f Off = 0

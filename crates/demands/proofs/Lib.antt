@@ -8,4 +8,5 @@ pub mod Thirds
 mod Days
 pub mod RefutesFirst
 pub mod RefutesSecond
+mod Invented
 pub mod RefutesThird

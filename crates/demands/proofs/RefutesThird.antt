@@ -1,5 +1,5 @@
 -- Two wrong products break demand 3, at runs that charge and runs that don't by what is proved of this product's report.
-use Prim.Native.Nat.{ℕ, _<_}
+use Prim.Native.Nat.{ℕ, zero, suc, _<_}
 use mathlib.Core.Path.{_≡_, refl, sym, ap, subst, _∙_}
 use native.Mathlib.Omega.{arith}
 use Rattle.base.specs.Units.{inPack, belowShare}
@@ -46,12 +46,13 @@ use Rattle.history.specs.Flagged.{flagged, wasTaken, edge}
 use Rattle.history.specs.Held.{elapsed, profileOf, sampleOf, byteOf, cellsOf, overridden, unserved, expired, wasReset, wasServed, wasObserved}
 use Rattle.history.specs.Judged.{bandAt, inputOk, inputOver, short, low, packOver, vbat, baseAt, permitted, suspended, rechargeDue, tapering, packClamp, inputGood, ending, chargeVoltage}
 use Rattle.history.specs.Valued.{settingOf, pinFault, startValue}
-use Rattle.third.specs.Demand.{Charging, Third, ranBy}
+use Rattle.third.specs.Demand.{Charging, ThirdDemand, ranBy}
 use Rattle.third.proofs.Third.{third-of}
 use Rattle.demands.specs.Printed.{Reporter}
 use Rattle.demands.specs.Refuted.{ThirdRefuted}
 use Rattle.demands.specs.Wrong.{worksOnce, inventsTimes}
-use Rattle.demands.proofs.Days.{paper, sampled, first, second, held}
+use Rattle.demands.proofs.Days.{paper, sampled, first, second, unlimited, held}
+use Rattle.demands.proofs.Invented.{stands}
 
 -- what this product reports after a run tells whether it charges
 charges : (r : Run) → Accepted r → 0 < reportOf (stateOf r) .current → Charging r
@@ -78,8 +79,16 @@ third-refuted = record {
       let same = stays (a .0) (b .0) (a .1) (b .1) in
       let some = b .2 .charges .1 (charges first (refl, refl) (omega arith)) in
       rests (powered paper) refl refl (a .2 .charges .0 (subst (λ (s : State). 0 < report s .current) (sym same) some));
-  times = λ d.
-      let b = d second (((refl, refl), refl), refl) in
-      let told : 1500 ≡ reportOf (b .0) .current = ap (held (λ s. reportOf s .current)) (b .1) in
-      rests second (((refl, refl), refl), refl) refl (b .2 .charges .0 (omega arith));
+  times = made;
 }
+  where
+    made : (time : ℕ) → ¬ ThirdDemand (inventsTimes time) reportOf
+    made zero d =
+        let b = d second (((refl, refl), refl), refl) in
+        let told : 1500 ≡ reportOf (b .0) .current = ap (held (λ s. reportOf s .current)) (b .1) in
+        rests second (((refl, refl), refl), refl) refl (b .2 .charges .0 (omega arith))
+    made (suc t) d =
+        let b = d unlimited (refl, refl) in
+        let told : 0 ≡ reportOf (b .0) .current = ap (held (λ s. reportOf s .current)) (sym (stands t) ∙ b .1) in
+        let some = b .2 .charges .1 (charges unlimited (refl, refl) (omega arith)) in
+        absurd (omega arith)

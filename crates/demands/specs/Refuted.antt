@@ -48,7 +48,7 @@ pub record SecondRefuted : Type 0 where
   pub timed : StepBreaks timesAfter
   pub cooled : StepBreaks judgesCool
 
--- demand 3: "one that works only on the first event", whatever it reports; and "invented stage times": here, times that never run
+-- demand 3: "one that works only on the first event breaks 2 and 3 over runs; invented stage times .. break 3's sums"
 pub record ThirdRefuted : Type 0 where
   pub once : (report : Reporter) → ¬ ThirdDemand worksOnce report
-  pub times : ¬ ThirdDemand (inventsTimes 0) reportOf
+  pub times : (time : ℕ) → ¬ ThirdDemand (inventsTimes time) reportOf
