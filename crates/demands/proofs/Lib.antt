@@ -1,12 +1,13 @@
 -- The laws of the crate `demands`.
-pub mod Firsts
-mod Reports
+mod Reading
 mod Prints
+mod Reports
 mod Spells
-pub mod Seconds
-pub mod Thirds
+pub mod HoldsFirst
+pub mod HoldsSecond
+pub mod HoldsThird
 mod Days
+mod Invented
 pub mod RefutesFirst
 pub mod RefutesSecond
-mod Invented
 pub mod RefutesThird

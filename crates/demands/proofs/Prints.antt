@@ -1,6 +1,6 @@
 -- What this product prints of a log is what its step, report and reader make of it.
-use Prim.Native.Nat.{ℕ, zero, suc, _+_, _%_, _^_, _≤_, _<_}
-use mathlib.Core.Path.{_≡_, refl, sym, ap, _∙_}
+use Prim.Native.Nat.{ℕ, zero, suc, _+_, _^_, _≤_, _<_}
+use mathlib.Core.Path.{_≡_, refl, ap, _∙_}
 use mathlib.Core.List.{List, [], _∷_}
 use native.Mathlib.Omega.{arith}
 use native.Mathlib.Nat.{zero-add}
@@ -15,7 +15,6 @@ use Rattle.event.specs.declared.Event.{Event}
 use Rattle.record.specs.Records.{Met, met, refused, end, recordAt}
 use Rattle.shown.specs.Lines.{lineOf}
 use Rattle.shown.specs.Report.{reportOf}
-use Rattle.shown.specs.declared.line.Line.{Line}
 use Rattle.charger.specs.Steps.{stepOf}
 use Rattle.charger.specs.Walks.{numberAfter, metBy, metOf, afterRead, walkOf, startWalk}
 use Rattle.charger.specs.Pages.{Passed, passedBy, pageOf, wholeOf, endBy}
@@ -37,15 +36,22 @@ record Same (w : Walk) (p : Passed) (l : Log) : Type 0 where
   lines : p .lines ≡ linesBy stepOf reportOf (w .model) (w .number) (l .events)
   last : endBy (p .last) (p .stop) ≡ (w .number + length (l .events)) ∷ l .code ∷ l .offset ∷ []
 
-alone : (w : Walk) → w .number ∷ 0 ∷ w .place ∷ [] ≡ (w .number + 0) ∷ 0 ∷ w .place ∷ []
-alone w = let k : w .number ≡ w .number + 0 = omega arith in ap (λ n. n ∷ 0 ∷ w .place ∷ []) k
+-- no record more
+alone : (w : Walk) (code place : ℕ) → w .number ∷ code ∷ place ∷ [] ≡ (w .number + 0) ∷ code ∷ place ∷ []
+alone w code place = let k : w .number ≡ w .number + 0 = omega arith in ap (λ n. n ∷ code ∷ place ∷ []) k
 
 abbrev PageIs : ℕ → List ℕ → Walk → Type 0
 PageIs most bytes w = w .number + most < 2 ^ 32 → Same w (pageOf most bytes w) (logFrom ourRead most bytes (w .place))
 
 no-page : (bytes : List ℕ) (w : Walk) → PageIs zero bytes w
 unfolding pageOf logFrom linesBy
-no-page bytes w h = record { lines = refl; last = alone w }
+no-page bytes w h = record { lines = refl; last = alone w 0 (w .place) }
+
+-- a record's line, and the lines after it, which count from the number that the walk counts to
+lines-after : (e : Event) (o : Outcome) (number next : ℕ) (es : List Event) → next ≡ suc number
+    → lineOf next (kindByte (kindOf e)) (o .number) (bitOf (o .pulse)) (o .model) ∷ linesBy stepOf reportOf (o .model) next es
+    ≡ lineBy reportOf (suc number) e o ∷ linesBy stepOf reportOf (o .model) (suc number) es
+lines-after e o number next es up = rw (up, line-is (suc number) e o)
 
 -- one record, and those after it
 one-more : (most : ℕ) (bytes : List ℕ) (w : Walk) → ((v : Walk) → PageIs most bytes v) → (x : Met) → w .number + suc most < 2 ^ 32
@@ -55,13 +61,15 @@ one-more most bytes w ih (met e next) h =
     let up : numberAfter (w .number) ≡ suc (w .number) = omega arith in
     let k = ih (metOf w e next .walk) (omega arith) in
     let rest = logFrom ourRead most bytes next in
-    let o = stepOf (w .model) e in
+    let count : numberAfter (w .number) + length (rest .events) ≡ w .number + suc (length (rest .events)) = omega arith in
     record {
-      lines = ap (λ l. metOf w e next .line ∷ l) (k .lines) ∙ ap (λ n. lineOf n (kindByte (kindOf e)) (o .number) (bitOf (o .pulse)) (o .model) ∷ linesBy stepOf reportOf (o .model) n (rest .events)) up ∙ ap (λ (l : Line). l ∷ linesBy stepOf reportOf (o .model) (suc (w .number)) (rest .events)) (line-is (suc (w .number)) e o);
-      last = k .last ∙ (let n : numberAfter (w .number) + length (rest .events) ≡ w .number + suc (length (rest .events)) = omega arith in ap (λ n. n ∷ rest .code ∷ rest .offset ∷ []) n);
+      lines =
+          ap (λ l. metOf w e next .line ∷ l) (k .lines)
+          ∙ lines-after e (stepOf (w .model) e) (w .number) (numberAfter (w .number)) (rest .events) up;
+      last = k .last ∙ ap (λ n. n ∷ rest .code ∷ rest .offset ∷ []) count;
     }
-one-more most bytes w ih (refused number place) h = record { lines = refl; last = let k : w .number ≡ w .number + 0 = omega arith in ap (λ n. n ∷ number ∷ place ∷ []) k }
-one-more most bytes w ih end h = record { lines = refl; last = alone w }
+one-more most bytes w ih (refused number place) h = record { lines = refl; last = alone w number place }
+one-more most bytes w ih end h = record { lines = refl; last = alone w 0 (w .place) }
 
 pages : (most : ℕ) (bytes : List ℕ) (w : Walk) → PageIs most bytes w
 unfolding pageOf logFrom walkOf

@@ -1,5 +1,5 @@
 -- Each wrong product and each slip breaks demand 2: a history, a run or a log at which it and the account come to different numbers.
-use Prim.Native.Nat.{ℕ, _≤_}
+use Prim.Native.Nat.{ℕ}
 use mathlib.Core.Path.{_≡_, refl, sym, ap, _∙_}
 use mathlib.Core.List.{List, [], _∷_, _++_}
 use native.Mathlib.Omega.{arith}
@@ -13,7 +13,6 @@ use Rattle.parts.specs.Edges.{merged, pulseOf, flagsNumber}
 use Rattle.number.specs.Number.{readNumber, readGroups}
 use Rattle.event.specs.Events.{kindOf, eventOf}
 use Rattle.event.specs.Kinds.{kindByte}
-use Rattle.event.specs.declared.Event.{Event}
 use Rattle.event.specs.declared.Event.the-variants.{PowerOn, Write, Observe, Service, Reset}
 use Rattle.event.specs.Ibat.{signedOf}
 use Rattle.record.specs.Records.{Met, met, refused, end, recordAt, readRecord}

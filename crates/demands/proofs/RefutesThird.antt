@@ -48,7 +48,6 @@ use Rattle.history.specs.Judged.{bandAt, inputOk, inputOver, short, low, packOv
 use Rattle.history.specs.Valued.{settingOf, pinFault, startValue}
 use Rattle.third.specs.Demand.{Charging, ThirdDemand, ranBy}
 use Rattle.third.proofs.Third.{third-of}
-use Rattle.demands.specs.Printed.{Reporter}
 use Rattle.demands.specs.Refuted.{ThirdRefuted}
 use Rattle.demands.specs.Wrong.{worksOnce, inventsTimes}
 use Rattle.demands.proofs.Days.{paper, sampled, first, second, unlimited, held}

@@ -1,6 +1,6 @@
 -- Each event has one log spelling, by this product's reader and writer.
 use Prim.Native.Nat.{ℕ, _+_, _≤_, _<_}
-use mathlib.Core.Path.{_≡_, refl, sym, ap, _∙_}
+use mathlib.Core.Path.{_≡_, ap, _∙_}
 use mathlib.Core.List.{List, _++_}
 use native.Mathlib.Omega.{arith}
 use lib.ListN.{length, drop}
@@ -9,7 +9,7 @@ use Rattle.base.specs.Writing.{Wrote, wrote, refused, written, put}
 use Rattle.event.specs.Kinds.{kinds}
 use Rattle.event.specs.declared.Event.{Event}
 use Rattle.record.specs.Promises.{Spellable}
-use Rattle.record.specs.Records.{spellEvent, met, readRecord, placed, recordAt}
+use Rattle.record.specs.Records.{spellEvent, met, placed, recordAt}
 use Rattle.record.proofs.RecordLaws.{reads-back, one-spelling}
 use Rattle.demands.specs.Second.{OneSpelling}
 use Rattle.demands.specs.Ours.{ourRead, ourWrite}

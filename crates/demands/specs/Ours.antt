@@ -1,5 +1,4 @@
 -- This product, as the demands take it: the definitions that the promises of its public calls cite. And what is proved of it.
-use mathlib.Core.List.{List}
 use Rattle.base.specs.Writing.{put, written}
 use Rattle.event.specs.Kinds.{kinds}
 use Rattle.record.specs.Records.{spellEvent, recordAt}

@@ -1,6 +1,6 @@
 -- What is printed of a log, of any step, report and reader: "each record gives: number, kind, answer (0 or refusal), phase, current, voltage, input limit, pulse, flags" and
 -- "Last: `end`, records read, code (0 or 1-4), offset of the log's end or the unreadable record."
-use Prim.Native.Nat.{ℕ, zero, suc, _+_}
+use Prim.Native.Nat.{ℕ, zero, suc}
 use mathlib.Core.List.{List, [], _∷_}
 use lib.ListN.{length}
 use Rattle.base.specs.Pick.{bitOf}

@@ -3,11 +3,9 @@ use Prim.Native.Nat.{ℕ}
 use mathlib.Core.Path.{_≡_}
 use mathlib.Core.List.{List, [], _∷_}
 use lib.IntN.{ℤ, pos, negsuc}
-use Rattle.parts.specs.declared.profile.Profile.{Profile}
-use Rattle.parts.specs.declared.sample.Sample.{Sample}
 use Rattle.event.specs.declared.Event.{Event}
 use Rattle.event.specs.declared.Event.the-variants.{PowerOn, Set, Write, Observe}
-use Rattle.rows.specs.Cases.{Asked, setting, band, phase, current, voltage, inputLimit, Case, log, events, stamps, spelling, number, given, bytesOf}
+use Rattle.rows.specs.Cases.{setting, band, phase, current, voltage, inputLimit, Case, log, events, stamps, spelling, number, given, bytesOf}
 
 pub record Row : Type 0 where
   pub case : Case
