@@ -63,7 +63,7 @@ use Rattle.demands.specs.Printed.{Printed, printedBy, logFrom, linesBy, 
 use Rattle.demands.specs.Refuted.{WriteBreaks, SecondRefuted}
 use Rattle.demands.specs.Wrong.{writesConstant, refusesAlways, reportsZeros, ignoresEvents, worksOnce, inventsTimes, inventsCounts}
 use Rattle.demands.proofs.Days.{paper, seen, sampled, first, cool, held, differ, no-byte, one-byte}
-use Rattle.demands.specs.Reported.{reportAt, fastAt, limitAt}
+use Rattle.history.specs.Reported.{reportAt, fastAt, limitAt}
 use Rattle.demands.specs.Slips.{sameWrite, scalesPrecharge, timesAfter, judgesCool, coolFirst}
 
 abbrev kindMet : Met → ℕ

@@ -1,4 +1,4 @@
--- Two wrong products break demand 3, at runs that charge and runs that don't by what is proved of this product's report.
+-- Wrong products break demand 3, at runs that charge and runs that don't by what is proved of this product's report.
 use Prim.Native.Nat.{ℕ, zero, suc, _<_}
 use mathlib.Core.Path.{_≡_, refl, sym, ap, subst, _∙_}
 use native.Mathlib.Omega.{arith}
@@ -40,7 +40,6 @@ use Rattle.charger.specs.Steps.{stepOf, firstOf, movedOf, observeOf}
 use Rattle.history.specs.History.{Run, powered, count, since, sumAfter}
 use Rattle.history.specs.Refused.{Accepted, refusalIn}
 use Rattle.history.specs.States.{stateOf, stateBy, settingsAt, registersAt, latchesAt, cycleAt, watchdogAt, flagsAt}
-use Rattle.history.proofs.Past.{phase-keeps-rule}
 use Rattle.history.specs.Cycles.{phaseAt, phasesOf, timeIn, isDone, phaseBy, starts, gave, fault, wasDone, chargeEnds, restarts, unitsOf, limitFound, limitReached, timeFound}
 use Rattle.history.specs.Flagged.{flagged, wasTaken, edge}
 use Rattle.history.specs.Held.{elapsed, profileOf, sampleOf, byteOf, cellsOf, overridden, unserved, expired, wasReset, wasServed, wasObserved}
@@ -49,16 +48,16 @@ use Rattle.history.specs.Valued.{settingOf, pinFault, startValue}
 use Rattle.third.specs.Demand.{Charging, ThirdDemand, ranBy}
 use Rattle.third.proofs.Third.{third-of}
 use Rattle.demands.specs.Refuted.{ThirdRefuted}
-use Rattle.demands.specs.Wrong.{worksOnce, inventsTimes}
-use Rattle.demands.proofs.Days.{paper, sampled, first, second, unlimited, held}
+use Rattle.demands.specs.Wrong.{worksOnce, refusesAlways, ignoresEvents, reportsZeros, inventsTimes}
+use Rattle.demands.proofs.Days.{paper, sampled, first, second, unlimited, held, differ}
 use Rattle.demands.proofs.Invented.{stands}
 
 -- what this product reports after a run tells whether it charges
 charges : (r : Run) → Accepted r → 0 < reportOf (stateOf r) .current → Charging r
-charges r accepted some = third-of phase-keeps-rule r accepted .charges .0 some
+charges r accepted some = third-of r accepted .charges .0 some
 
 rests : (r : Run) → Accepted r → reportOf (stateOf r) .current ≡ 0 → Charging r → ⊥
-rests r accepted none c = let some = third-of phase-keeps-rule r accepted .charges .1 c in omega arith
+rests r accepted none c = let some = third-of r accepted .charges .1 c in omega arith
 
 abbrev state : State → Model → State
 state s Off = s
@@ -70,8 +69,11 @@ unfolding ranBy worksOnce
 stays s t on next = ap (state s) (sym (ap (λ m. worksOnce m (Observe sampled) .model) on) ∙ next)
 
 pub third-refuted : ThirdRefuted
-unfolding reportOf refusalIn inventsTimes ranBy fastCurrent chargeVoltageOf inputLimitOf stateBy phaseAt mayHold sampleOk elapsed stepOf chargeClampOf shareOf baseOf inPack cutOf profileOf settingsAt registersAt latchesAt cycleAt watchdogAt sampleOf bandAt flagsAt phasesOf count rangeOf firstOf stateOk movedOf packClampOf settingOf byteOf cellsOf overridden inputOk inputOver short low packOver timeIn isDone unserved flagged phaseBy ranges powerOnOf profileOk settingsOk registersOk cycleOk watchdogOk setOf writeEventOf takeFlagsOf observeOf serviceOf resetEventOf resetByte takenOf expired since vbat belowShare baseAt sumAfter starts gave wasReset wasServed wasTaken permitted fault suspended wasDone rechargeDue chargeEnds tapering poweredOf finishOf storeOf writeOf withFlags observedOf resetOf pinFault startValue fieldsAt packClamp restarts unitsOf edge inputGood limitFound wasObserved ending chargeVoltage settleOf startOf heldOf shownOf edgesOf merged pulseOf writtenTo countedOf expiredOf clearedIf timesOf unitsOfCharger startSettings restored startVsysmin fields regulatedOf limitReached timeFound forcedOf latchesOf bandOf settledOf testsOf settingNumbers seenOf expiresOf phaseChanges bandChanges reachesOf recounted placed byteAt startVreg startIchg faultOf shortOf lowOf packOverOf cycleOf phaseOf permittedOf suspendsOf belowRecharge taperOf endingOf reachedOf clearsOf endsOf judgedOf restartsOf
+unfolding reportOf refusalIn inventsTimes refusesAlways ignoresEvents reportsZeros ranBy fastCurrent chargeVoltageOf inputLimitOf stateBy phaseAt mayHold sampleOk elapsed stepOf chargeClampOf shareOf baseOf inPack cutOf profileOf settingsAt registersAt latchesAt cycleAt watchdogAt sampleOf bandAt flagsAt phasesOf count rangeOf firstOf stateOk movedOf packClampOf settingOf byteOf cellsOf overridden inputOk inputOver short low packOver timeIn isDone unserved flagged phaseBy ranges powerOnOf profileOk settingsOk registersOk cycleOk watchdogOk setOf writeEventOf takeFlagsOf observeOf serviceOf resetEventOf resetByte takenOf expired since vbat belowShare baseAt sumAfter starts gave wasReset wasServed wasTaken permitted fault suspended wasDone rechargeDue chargeEnds tapering poweredOf finishOf storeOf writeOf withFlags observedOf resetOf pinFault startValue fieldsAt packClamp restarts unitsOf edge inputGood limitFound wasObserved ending chargeVoltage settleOf startOf heldOf shownOf edgesOf merged pulseOf writtenTo countedOf expiredOf clearedIf timesOf unitsOfCharger startSettings restored startVsysmin fields regulatedOf limitReached timeFound forcedOf latchesOf bandOf settledOf testsOf settingNumbers seenOf expiresOf phaseChanges bandChanges reachesOf recounted placed byteAt startVreg startIchg faultOf shortOf lowOf packOverOf cycleOf phaseOf permittedOf suspendsOf belowRecharge taperOf endingOf reachedOf clearsOf endsOf judgedOf restartsOf
 third-refuted = record {
+  refuses = λ r report d. differ 0 1 refl (ap (held (λ s. 1)) (d (powered paper) refl .1));
+  zeros = λ step d. let some = d first (refl, refl) .2 .charges .1 (charges first (refl, refl) (omega arith)) in absurd (omega arith);
+  ignores = λ report d. differ 0 1 refl (ap (held (λ s. 1)) (d (powered paper) refl .1));
   once = λ report d.
       let a = d (powered paper) refl in
       let b = d first (refl, refl) in

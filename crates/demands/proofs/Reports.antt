@@ -20,7 +20,7 @@ use Rattle.history.specs.Valued.{settingOf, enabled}
 use Rattle.history.specs.Judged.{packClamp, baseAt, chargeClamp, bandAt, shareIn, cutIn, chargeVoltage}
 use Rattle.history.specs.Cycles.{phaseAt}
 use Rattle.history.specs.States.{settingsAt, registersAt, stateBy, stateOf}
-use Rattle.demands.specs.Reported.{fastAt, limitAt, reportAt}
+use Rattle.history.specs.Reported.{fastAt, limitAt, reportAt}
 
 share-is : (b : Band) (r : Run) → shareOf (registersAt r) b ≡ shareIn b r
 unfolding shareOf registersAt

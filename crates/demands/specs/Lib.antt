@@ -1,6 +1,5 @@
 -- The definitions of the crate `demands`.
 pub mod First
-pub mod Reported
 pub mod Printed
 pub mod Second
 pub mod Ours

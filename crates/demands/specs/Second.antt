@@ -18,7 +18,7 @@ use Rattle.history.specs.States.{stateOf, modelOf, outcomeOf}
 use Rattle.history.specs.Runs.{Lawful}
 use Rattle.demands.specs.First.{Step, Reader, Writer}
 use Rattle.demands.specs.Printed.{Reporter, Printed, printedBy}
-use Rattle.demands.specs.Reported.{reportAt}
+use Rattle.history.specs.Reported.{reportAt}
 
 -- "each event has one log spelling, read back as the same event, and every accepted spelling is written again byte for byte where room allows"
 pub record OneSpelling (read : Reader) (write : Writer) (e : Event) : Type 0 where

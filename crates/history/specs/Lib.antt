@@ -5,6 +5,7 @@ pub mod Valued
 pub mod Judged
 pub mod Cycles
 pub mod Flagged
+pub mod Reported
 pub mod Refused
 pub mod States
 pub mod Runs

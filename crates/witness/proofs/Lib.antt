@@ -2,4 +2,3 @@
 pub mod Accepting
 pub mod Rows
 pub mod Clauses
-pub mod Wrong

@@ -5,19 +5,15 @@ use Rattle.start.specs.Values.{startVreg, startIchg, startVsysmin, startSetting
 use Rattle.settings.specs.Numbered.{settingNumbers, heldOf}
 use Rattle.fields.specs.Rows.{fields, fieldsAt, takenOf, resetByte}
 use Rattle.sense.specs.Bits.{regulatedOf}
-use Rattle.bands.specs.Effect.{shareOf, cutOf}
-use Rattle.levels.specs.Clamps.{packClampOf, baseOf}
-use Rattle.levels.specs.Voltage.{chargeVoltageOf}
-use Rattle.shown.specs.Report.{chargeClampOf, fastCurrent, inputLimitOf, reportOf}
 use Rattle.history.specs.History.{since, sumAfter, count, upTo, lastOf, total}
 use Rattle.history.specs.Held.{profileOf, sampleOf, elapsed, wasObserved, wasReset, wasServed, unserved, expired, overridden, cellsOf, byteOf}
 use Rattle.history.specs.Valued.{pinFault, startValue, settingOf}
 use Rattle.history.specs.Judged.{vbat, packClamp, baseAt, chargeClamp, inputOk, inputOver, inputGood, short, low, packOver, bandAt, suspended, chargeVoltage, permitted, tapering, rechargeDue, ending}
 use Rattle.history.specs.Cycles.{unitsOf, gave, isDone, wasDone, restarts, starts, timeIn, timeFound, limitFound, fault, chargeEnds, phaseBy, limitReached, phasesOf, phaseAt}
-use Rattle.history.specs.States.{settingsAt, registersAt, stateBy}
+use Rattle.history.specs.Reported.{fastAt, limitAt, reportAt}
 use Rattle.witness.specs.Days.{day, slow, unattended, mild}
 use Rattle.witness.specs.Rows.{toldOf, RowsTold}
 
 pub rows-told : RowsTold
-unfolding day slow unattended mild toldOf inPack belowShare startVreg startIchg startVsysmin startSettings settingNumbers heldOf fields fieldsAt takenOf resetByte regulatedOf shareOf cutOf packClampOf baseOf chargeVoltageOf chargeClampOf fastCurrent inputLimitOf reportOf since sumAfter count upTo lastOf total profileOf sampleOf elapsed wasObserved wasReset wasServed unserved expired overridden cellsOf byteOf pinFault startValue settingOf vbat packClamp baseAt chargeClamp inputOk inputOver inputGood short low packOver bandAt suspended chargeVoltage permitted tapering rechargeDue ending unitsOf gave isDone wasDone restarts starts timeIn timeFound limitFound fault chargeEnds phaseBy limitReached phasesOf phaseAt settingsAt registersAt stateBy
+unfolding day slow unattended mild toldOf inPack belowShare startVreg startIchg startVsysmin startSettings settingNumbers heldOf fields fieldsAt takenOf resetByte regulatedOf since sumAfter count upTo lastOf total profileOf sampleOf elapsed wasObserved wasReset wasServed unserved expired overridden cellsOf byteOf pinFault startValue settingOf vbat packClamp baseAt chargeClamp inputOk inputOver inputGood short low packOver bandAt suspended chargeVoltage permitted tapering rechargeDue ending unitsOf gave isDone wasDone restarts starts timeIn timeFound limitFound fault chargeEnds phaseBy limitReached phasesOf phaseAt fastAt limitAt reportAt
 rows-told = (refl, (refl, (refl, (refl, (refl, (refl, (refl, (refl, (refl, (refl, (refl, (refl, (refl, (refl, (refl, (refl, (refl, (refl, (refl, (refl, tt))))))))))))))))))))

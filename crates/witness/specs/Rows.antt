@@ -4,11 +4,10 @@ use mathlib.Core.Path.{_≡_}
 use mathlib.Core.List.{List, [], _∷_}
 use mathlib.Core.Bool.{Bool, true, false}
 use Rattle.base.specs.Volts.{millivoltsOf}
-use Rattle.shown.specs.Report.{reportOf}
 use Rattle.history.specs.History.{Run}
 use Rattle.history.specs.Held.{expired}
 use Rattle.history.specs.Cycles.{trickle, precharge, fast, numberAt, isDone, limitReached, phaseAt}
-use Rattle.history.specs.States.{stateOf}
+use Rattle.history.specs.Reported.{reportAt}
 use Rattle.third.specs.Stages.{cycleStart, timeRun}
 use Rattle.witness.specs.Days.{dayAt, slow, unattended, mild}
 
@@ -28,8 +27,8 @@ pub record Told : Type 0 where
 unfoldable pub toldOf : Run → Told
 toldOf r = record {
   phase = numberAt phaseAt r;
-  current = reportOf (stateOf r) .current;
-  voltage = millivoltsOf (reportOf (stateOf r) .voltage);
+  current = reportAt r .current;
+  voltage = millivoltsOf (reportAt r .voltage);
   start = cycleStart r;
   trickle = timeRun trickle r;
   precharge = timeRun precharge r;
