@@ -1,4 +1,4 @@
-// Runs each stored log record by record: `lines FILE` prints what runlog prints of it, `held FILE` what the model holds after each record once it is powered. Two files beside each other, `FILE FILE`, are compared: it prints what partlog prints.
+// Runs each stored log record by record: `lines FILE` prints what runlog prints of it, `held FILE` what the model holds after each record once it is powered. Two files beside each other, `FILE FILE`, are compared: it prints what partlog prints of them, and how many bytes are handed back.
 ghost use Prim.Native.Nat.{_≤_};
 
 mod files;

@@ -1,9 +1,11 @@
-// Compares two stored logs, and prints what partlog prints of them.
+// Compares two stored logs, and prints what partlog prints of them and how long the part is that is handed back.
 use crate::files;
 use crate::files::Loaded;
+use crate::say;
 use base::written::Written;
 use libc::STDOUT_FILENO;
 use logs::answer::Compared;
+use logs::rests;
 
 fn print_answer(compared: Compared) {
     let mut out = [0u8; 64];
@@ -14,6 +16,15 @@ fn print_answer(compared: Compared) {
     if n <= 64 {
         io::write_all(STDOUT_FILENO, &out[..n]);
     }
+}
+
+// Prints the answer of two logs, and how many bytes are handed back.
+fn print_pair<'a>(first: &'a [u8], second: &'a [u8]) {
+    print_answer(logs::compare_inputs(first, second));
+    let part = rests::rest(first, second);
+    say::text(b"bytes ");
+    io::print_decimal(STDOUT_FILENO, part.len() as u64);
+    say::text(b"\n");
 }
 
 // Compares the two files of these names.
@@ -30,7 +41,7 @@ pub(crate) fn run<'a>(name: &'a [u8], other: &'a [u8]) {
     };
     if n <= 65537 {
         if m <= 65537 {
-            print_answer(logs::compare_inputs(&first[..n], &second[..m]));
+            print_pair(&first[..n], &second[..m]);
         }
     }
 }

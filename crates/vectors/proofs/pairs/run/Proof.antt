@@ -6,11 +6,11 @@ use borrow.Author.Needs.{needs}
 use Rattle.vectors.proofs.pairs.run.Statement.{statement}
 use Rattle.vectors.proofs.pairs.run.Tie as tie
 
-slice-aggregate-compare-inputs : tie.Need-slice-aggregate-compare-inputs
-slice-aggregate-compare-inputs c = sym (length-take-le _ _ (omega arith))
+slice-aggregate-print-pair : tie.Need-slice-aggregate-print-pair
+slice-aggregate-print-pair c = sym (length-take-le _ _ (omega arith))
 
-slice-aggregate-compare-inputs-2 : tie.Need-slice-aggregate-compare-inputs-2
-slice-aggregate-compare-inputs-2 c = sym (length-take-le _ _ (omega arith))
+slice-aggregate-print-pair-2 : tie.Need-slice-aggregate-print-pair-2
+slice-aggregate-print-pair-2 c = sym (length-take-le _ _ (omega arith))
 
 pub run-spec : {M : Type 1} → statement M
 run-spec =
@@ -27,10 +27,9 @@ run-spec =
     (λ c. search needs)
     (λ c. tt)
     (λ c. search needs)
-    slice-aggregate-compare-inputs
+    slice-aggregate-print-pair
     (λ c. search needs)
-    slice-aggregate-compare-inputs-2
-    (λ c κs. tt)
+    slice-aggregate-print-pair-2
     (λ c κs. tt)
     (λ c. tt)
     (λ c. tt)
