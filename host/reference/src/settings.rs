@@ -105,7 +105,8 @@ pub struct Range {
 impl Range {
     /// Whether `value` is in the range and on its step.
     pub fn takes(self, value: u32) -> bool {
-        (self.least..=self.most).contains(&value) && (value - self.least) % self.step == 0
+        let past_a_step = value.saturating_sub(self.least) % self.step;
+        (self.least..=self.most).contains(&value) && past_a_step == 0
     }
 }
 

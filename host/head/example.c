@@ -1,0 +1,77 @@
+/* The paper's example log, its lines, and all that can be read of the model after it. */
+#include "head.h"
+
+#include <inttypes.h>
+#include <stdio.h>
+#include <string.h>
+
+enum { LINES_ROOM = 256 };
+
+/* The paper's example log. */
+const uint8_t EXAMPLE[28] = {0x01, 0x02, 0x05, 0x04, 0x00, 0x00, 0x94, 0x23, 0x90, 0x1C, 0xA0, 0x38, 0xA0, 0x99,
+                                    0x02, 0x00, 0x05, 0xE8, 0x07, 0xE0, 0x5D, 0xB0, 0x3B, 0x00, 0xD8, 0xAD, 0x03, 0x00};
+
+/* And the lines that the paper gives for it. */
+static const char EXAMPLE_LINES[] = "1 1 0 0 0 0 3300 1 32\n"
+                                    "2 5 0 3 1500 8400 3300 1 97\n"
+                                    "end 2 0 28\n";
+
+static size_t line(char *lines, size_t used, unsigned number, struct cheukdane_played played, const uint8_t *show) {
+    int more = snprintf(lines + used, LINES_ROOM - used, "%u %" PRIu32 " %" PRIu32 " %" PRIu32 " %" PRIu32 " %" PRIu32 " %" PRIu32 " %" PRIu32 " %" PRIu32 "\n",
+                        number, played.kind, played.number, word(show, 0), word(show, 1), word(show, 2), word(show, 3), word(show, 4), word(show, 5));
+    return used + (size_t)more;
+}
+
+static void the_example(void) {
+    int before = failures;
+    struct head head;
+    uint8_t show[CHEUKDANE_SHOWN];
+    char lines[LINES_ROOM];
+    size_t used = 0, place = 0;
+    unsigned number = 0;
+    start(&head);
+    for (;;) {
+        struct cheukdane_played played = cheukdane_play(head.image, sizeof head.image, EXAMPLE, sizeof EXAMPLE, place, show, sizeof show);
+        if (played.kind == 0 || played.next <= place) {
+            snprintf(lines + used, LINES_ROOM - used, "end %u %" PRIu32 " %" PRIu64 "\n", number, played.number, played.place);
+            break;
+        }
+        used = line(lines, used, ++number, played, show);
+        place = played.next;
+    }
+    holds(strcmp(lines, EXAMPLE_LINES) == 0, "the example log's lines");
+    shown(before, "the paper's example log gives the paper's lines");
+}
+
+/* What the example leaves: report, STAT, registers and the image's words. */
+static void what_is_read(void) {
+    int before = failures;
+    struct head head;
+    uint8_t report[CHEUKDANE_REPORT];
+    const uint32_t wanted[6] = {3, 1500, 8400, 3300, 97, 0};
+    const uint32_t bytes[8] = {0x00, 0xE1, 0xAA, 0x95, 0xD7, 0x40, 0x2A, 0x04};
+    start(&head);
+    holds(cheukdane_report(head.image, sizeof head.image, report, sizeof report).number == 6, "no report before a power-on");
+    holds(cheukdane_register(head.image, sizeof head.image, 0).number == 6, "no register before a power-on");
+    play(&head, EXAMPLE, sizeof EXAMPLE, 0);
+    holds(cheukdane_report(head.image, sizeof head.image, report, sizeof report).number == 0, "a report after it");
+    for (size_t at = 0; at < 6; at++) {
+        holds(word(report, at) == wanted[at], "each of the report's numbers");
+    }
+    for (uint32_t at = 0; at < 8; at++) {
+        struct cheukdane_byte byte = cheukdane_register(head.image, sizeof head.image, 0x15 + at);
+        holds(byte.number == 0 && byte.byte == bytes[at], "each register's byte");
+    }
+    holds(cheukdane_register(head.image, sizeof head.image, 0x14).number == 10, "0x14 is no register");
+    holds(cheukdane_register(head.image, sizeof head.image, 0x1D).number == 10, "0x1D is no register");
+    holds(word(head.image, 0) == 1 && word(head.image, CHEUKDANE_PHASE) == 3, "the image is on, and in phase 3");
+    holds(word(head.image, CHEUKDANE_SETTINGS) == 8400, "the image's VREG");
+    holds(word(head.image, CHEUKDANE_SAMPLE) == 1000, "the image's last stamp");
+    holds(word(head.image, CHEUKDANE_FLAGS) == 97, "the image's flags");
+    shown(before, "report, STAT, registers and image after it");
+}
+
+void show_the_example(void) {
+    the_example();
+    what_is_read();
+}

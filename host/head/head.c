@@ -1,0 +1,65 @@
+/* What a head does: it holds a model as an image, logs what it does to it, and plays logs. */
+#include "head.h"
+
+#include <stdio.h>
+#include <string.h>
+
+int failures;
+
+void holds(int fact, const char *what) {
+    if (!fact) {
+        failures++;
+        printf("FAILED: %s\n", what);
+    }
+}
+
+void shown(int failures_before, const char *what) {
+    printf("%s %s\n", failures == failures_before ? "ok    " : "FAILED", what);
+}
+
+uint32_t word(const uint8_t *bytes, size_t index) {
+    const uint8_t *at = bytes + 4 * index;
+    return (uint32_t)at[0] | (uint32_t)at[1] << 8 | (uint32_t)at[2] << 16 | (uint32_t)at[3] << 24;
+}
+
+size_t put_words(uint8_t *bytes, const uint32_t *numbers, size_t count) {
+    for (size_t at = 0; at < 4 * count; at++) {
+        bytes[at] = (uint8_t)(numbers[at / 4] >> 8 * (at % 4));
+    }
+    return 4 * count;
+}
+
+int same(const uint8_t *one, const uint8_t *other, size_t length) {
+    return memcmp(one, other, length) == 0;
+}
+
+void start(struct head *head) {
+    memset(head, 0xEE, sizeof *head);
+    head->length = 0;
+    holds(cheukdane_off(head->image, sizeof head->image).number == 0, "a head starts with a model that is off");
+}
+
+uint32_t does(struct head *head, const struct event *event, uint8_t *show) {
+    uint8_t words[40];
+    size_t length = put_words(words, event->numbers, event->count);
+    struct cheukdane_answer answer = cheukdane_event(head->image, sizeof head->image, event->kind, words, length, show, CHEUKDANE_SHOWN);
+    if (answer.number == 0) {
+        struct cheukdane_written written =
+            cheukdane_write(event->kind, words, length, head->log + head->length, sizeof head->log - head->length);
+        holds(written.number == 0, "an accepted event is logged");
+        head->length += written.count;
+    }
+    return answer.number;
+}
+
+size_t play(struct head *head, const uint8_t *log, size_t length, size_t place) {
+    uint8_t show[CHEUKDANE_SHOWN];
+    for (;;) {
+        struct cheukdane_played played = cheukdane_play(head->image, sizeof head->image, log, length, place, show, sizeof show);
+        if (played.kind == 0 || played.next <= place) {
+            holds(played.kind == 0 && played.number == 0, "a head's log is readable to its end");
+            return played.place;
+        }
+        place = played.next;
+    }
+}

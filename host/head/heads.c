@@ -1,0 +1,114 @@
+/* Two heads over one log: in step, one that has missed records, and two that part. */
+#include "head.h"
+
+/* A morning at a head: a charge from short to done, settings, registers, flags, and events that are refused. */
+static const struct event MORNING[] = {
+    {1, 10, {2, 5, 4, 6040, 0xFFFFFF00u, 4500, 3600, 7200, 36000, 160}},
+    {5, 6, {0xFFFFFFF0u, 12000, 3000, CHEUKDANE_IBAT(90), 55000, 0}},
+    {5, 6, {1000, 12000, 5000, CHEUKDANE_IBAT(110), 55000, 4}},
+    {2, 2, {2, 1000}},
+    {5, 6, {60000, 12000, 7600, CHEUKDANE_IBAT(900), 69000, 0}},
+    {3, 2, {0x1B, 0x40}},
+    {3, 2, {0x1C, 0x08}},
+    {6, 0, {0}},
+    {4, 0, {0}},
+    {5, 6, {120000, 12000, 8395, CHEUKDANE_IBAT(500), 55000, 0}},
+    {5, 6, {180000, 12000, 8400, CHEUKDANE_IBAT(-1), 55000, 0}},
+    {2, 2, {14, 4095}},
+    {5, 6, {240000, 2000, 8380, CHEUKDANE_IBAT(-300), 55000, 0}},
+    {5, 6, {300000, 5000, 8000, CHEUKDANE_IBAT(1000), 0, 32}},
+    {7, 0, {0}},
+    {4, 0, {0}},
+};
+enum { EVENTS = sizeof MORNING / sizeof MORNING[0] };
+
+static void two_heads_in_step(void) {
+    int before = failures;
+    struct head one, other;
+    uint8_t show[CHEUKDANE_SHOWN], played[CHEUKDANE_SHOWN];
+    start(&one);
+    start(&other);
+    for (size_t at = 0; at < EVENTS; at++) {
+        size_t place = one.length;
+        holds(does(&one, &MORNING[at], show) == 0, "each event of the morning is accepted");
+        struct cheukdane_played answer = cheukdane_play(other.image, sizeof other.image, one.log, one.length, place, played, sizeof played);
+        holds(answer.number == 0 && answer.kind == MORNING[at].kind && answer.next == one.length, "the other head plays what the one has logged");
+        holds(same(one.image, other.image, sizeof one.image), "the heads' images are equal after each record");
+        holds(same(show, played, sizeof show), "and what they show is");
+    }
+    start(&other);
+    holds(play(&other, one.log, one.length, 0) == one.length, "the whole log is played");
+    holds(same(one.image, other.image, sizeof one.image), "a head that comes late is in step after the whole log");
+    shown(before, "two heads stay in step, byte for byte, after every record");
+}
+
+static void a_charge_is_seen(void) {
+    int before = failures;
+    const uint32_t phases[EVENTS] = {0, 1, 2, 2, 3, 3, 3, 3, 3, 4, 5, 5, 0, 7, 7, 7};
+    struct head head;
+    uint8_t show[CHEUKDANE_SHOWN];
+    uint32_t held = 0;
+    start(&head);
+    for (size_t at = 0; at < EVENTS; at++) {
+        does(&head, &MORNING[at], show);
+        holds(word(show, 0) == phases[at], "the phase after each event");
+        holds(word(show, 3) == 551, "6,040 ohms give 551 mA");
+        if (MORNING[at].kind == 4) {
+            holds(word(show, 6) == held && word(show, 5) == 0, "the held flags are handed back and cleared");
+        }
+        held = word(show, 5);
+    }
+    shown(before, "a charge goes from short to done, and a fault ends the next");
+}
+
+/* The two logs are compared and the rest of the longer is played; both images are then equal. */
+static void a_head_catches_up(void) {
+    int before = failures;
+    uint8_t show[CHEUKDANE_SHOWN];
+    for (size_t missed = 0; missed <= EVENTS; missed++) {
+        struct head one, other;
+        start(&one);
+        start(&other);
+        for (size_t at = 0; at < EVENTS; at++) {
+            does(&one, &MORNING[at], show);
+            if (at < EVENTS - missed) {
+                does(&other, &MORNING[at], show);
+            }
+        }
+        struct cheukdane_compared answer = cheukdane_compare(other.log, other.length, one.log, one.length);
+        holds(answer.number == 0 && answer.log == (missed ? 2u : 1u) && answer.place == other.length, "what the head has missed is found");
+        answer = cheukdane_compare(one.log, one.length, other.log, other.length);
+        holds(answer.number == 0 && answer.log == 1 && answer.place == other.length, "and the other way round");
+        play(&other, one.log, one.length, answer.place);
+        holds(same(one.image, other.image, sizeof one.image), "a head that has caught up is in step");
+    }
+    shown(before, "a head that missed records is found and catches up from the rest");
+}
+
+/* One event in the middle is another at the second head. */
+static void heads_that_part(void) {
+    int before = failures;
+    uint8_t show[CHEUKDANE_SHOWN];
+    const struct event strange = {2, 2, {4, 100}};
+    for (size_t parted = 1; parted < EVENTS; parted++) {
+        struct head one, other;
+        uint64_t place = 0;
+        start(&one);
+        start(&other);
+        for (size_t at = 0; at < EVENTS; at++) {
+            place = at == parted ? one.length : place;
+            does(&one, &MORNING[at], show);
+            does(&other, at == parted ? &strange : &MORNING[at], show);
+        }
+        struct cheukdane_compared answer = cheukdane_compare(one.log, one.length, other.log, other.length);
+        holds(answer.number == 14 && answer.log == 0 && answer.record == parted + 1 && answer.place == place, "14, with the record and where it starts");
+    }
+    shown(before, "two logs that part: 14, with record and offset");
+}
+
+void show_two_heads(void) {
+    two_heads_in_step();
+    a_charge_is_seen();
+    a_head_catches_up();
+    heads_that_part();
+}

@@ -1,0 +1,10 @@
+/* What a head's firmware does with the library, and what it must survive. Prints a line for each thing shown; the status is 0 only if all of them held. */
+#include "head.h"
+
+int main(void) {
+    show_the_example();
+    show_two_heads();
+    show_bad_images();
+    show_refusals();
+    return failures != 0;
+}

@@ -1,0 +1,107 @@
+/* Logs that break off, buffers that are too short, and events that are refused. */
+#include "head.h"
+
+#include <string.h>
+
+static void logs_that_break_off(void) {
+    int before = failures;
+    struct head head;
+    uint8_t show[CHEUKDANE_SHOWN];
+    start(&head);
+    for (size_t length = 0; length < sizeof EXAMPLE; length++) {
+        struct cheukdane_compared answer = cheukdane_compare(EXAMPLE, length, EXAMPLE, sizeof EXAMPLE);
+        int whole = length == 0 || length == 16;
+        holds(answer.number == (whole ? 0u : 1u), "a log that ends inside a record is 1");
+        uint64_t from = length < 16 ? 0 : 16;
+        struct cheukdane_played played = cheukdane_play(head.image, sizeof head.image, EXAMPLE, length, (size_t)from, show, sizeof show);
+        holds(played.kind != 0 || (played.number == (whole ? 0u : 1u) && played.place == from && played.next == from), "and so it is played");
+    }
+    holds(cheukdane_compare(NULL, 0, NULL, 0).number == 0, "two logs that are NULL, 0 are equal");
+    holds(cheukdane_compare(NULL, 0, EXAMPLE, sizeof EXAMPLE).log == 2, "and one is the start of any");
+    holds(cheukdane_play(head.image, sizeof head.image, NULL, 0, 0, show, sizeof show).kind == 0, "and has no record");
+    shown(before, "logs that break off, and empty ones");
+}
+
+static void short_buffers(void) {
+    int before = failures;
+    struct head head;
+    uint8_t kept[CHEUKDANE_IMAGE];
+    start(&head);
+    play(&head, EXAMPLE, sizeof EXAMPLE, 0);
+    memcpy(kept, head.image, sizeof kept);
+    for (size_t length = 0; length <= 2 * CHEUKDANE_SHOWN; length++) {
+        uint8_t buffer[2 * CHEUKDANE_SHOWN], whole[2 * CHEUKDANE_SHOWN];
+        uint8_t *lent = length ? buffer : NULL;
+        memset(buffer, 0xEE, sizeof buffer);
+        memset(whole, 0xEE, sizeof whole);
+        struct cheukdane_answer reported = cheukdane_report(head.image, sizeof head.image, lent, length);
+        size_t written = length < CHEUKDANE_REPORT ? 0 : CHEUKDANE_REPORT;
+        holds(reported.number == (written ? 0u : 12u), "a report that doesn't fit is 12");
+        holds(same(buffer + written, whole, sizeof whole - written), "bytes after a report stay");
+        memset(buffer, 0xEE, sizeof buffer);
+        struct cheukdane_answer answer = cheukdane_event(head.image, sizeof head.image, 6, NULL, 0, lent, length);
+        written = length < CHEUKDANE_SHOWN ? 0 : CHEUKDANE_SHOWN;
+        holds(answer.number == (written ? 0u : 12u), "what is shown and doesn't fit is 12");
+        holds(same(buffer + written, whole, sizeof whole - written), "bytes after what is shown stay");
+        holds(written || same(head.image, kept, sizeof kept), "and 12 leaves the image");
+    }
+    shown(before, "answer buffers of every length");
+}
+
+static void short_records(void) {
+    int before = failures;
+    uint8_t words[40], out[CHEUKDANE_RECORD + 8], whole[CHEUKDANE_RECORD + 8];
+    const uint32_t most[10] = {0xFFFFFFFFu, 0xFFFFFFFFu, 0xFFFFFFFFu, 0xFFFFFFFFu, 0xFFFFFFFFu,
+                               0xFFFFFFFFu, 0xFFFFFFFFu, 0xFFFFFFFFu, 0xFFFFFFFFu, 0xFFFFFFFFu};
+    put_words(words, most, 10);
+    memset(whole, 0xEE, sizeof whole);
+    for (size_t length = 0; length <= sizeof out; length++) {
+        memset(out, 0xEE, sizeof out);
+        struct cheukdane_written written = cheukdane_write(1, words, sizeof words, length ? out : NULL, length);
+        int fits = length >= CHEUKDANE_RECORD;
+        holds(written.number == (fits ? 0u : 12u) && written.count == (fits ? CHEUKDANE_RECORD : 0u), "the longest record fits or is 12");
+        holds(same(out + written.count, whole, sizeof whole - written.count), "bytes after a record stay");
+    }
+    holds(cheukdane_write(0, NULL, 0, out, sizeof out).number == 4, "kind 0 is 4");
+    holds(cheukdane_write(8, NULL, 0, out, sizeof out).number == 4, "kind 8 is 4");
+    holds(cheukdane_write(2, words, 4, out, sizeof out).number == 5, "a set of one number is 5");
+    shown(before, "record buffers of every length, and events that aren't");
+}
+
+/* Refused events, in a log and outside it, leave the model and lead on to the next record. */
+static void refusals(void) {
+    int before = failures;
+    const struct event service = {6, 0, {0}};
+    const struct event bad[] = {
+        {1, 10, {8, 5, 4, 0, 0, 4500, 0, 0, 0, 0}},
+        {2, 2, {15, 0}},
+        {2, 2, {1, 2405}},
+        {3, 2, {0x14, 0}},
+        {3, 2, {0x15, 256}},
+        {3, 2, {0x16, 7}},
+        {5, 6, {3601001, 0, 0, 0, 0, 0}},
+    };
+    const uint32_t numbers[] = {5, 8, 9, 10, 5, 11, 7};
+    struct head head;
+    uint8_t show[CHEUKDANE_SHOWN], kept[CHEUKDANE_IMAGE], words[40], record[CHEUKDANE_RECORD];
+    start(&head);
+    holds(does(&head, &service, show) == 6, "an event before a power-on is 6");
+    play(&head, EXAMPLE, sizeof EXAMPLE, 0);
+    memcpy(kept, head.image, sizeof kept);
+    for (size_t at = 0; at < sizeof bad / sizeof bad[0]; at++) {
+        holds(does(&head, &bad[at], show) == numbers[at], "each refusal by its number");
+        size_t length = put_words(words, bad[at].numbers, bad[at].count);
+        struct cheukdane_written written = cheukdane_write(bad[at].kind, words, length, record, sizeof record);
+        struct cheukdane_played played = cheukdane_play(head.image, sizeof head.image, record, written.count, 0, show, sizeof show);
+        holds(played.number == numbers[at] && played.kind == bad[at].kind && played.place == 0 && played.next == written.count, "in a log too, and the log goes on");
+        holds(same(head.image, kept, sizeof kept), "a refused event leaves the model");
+    }
+    shown(before, "refused events leave the model and the log goes on");
+}
+
+void show_refusals(void) {
+    logs_that_break_off();
+    short_buffers();
+    short_records();
+    refusals();
+}

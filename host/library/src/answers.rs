@@ -1,0 +1,63 @@
+//! The header's answers: structs by value, in C's layout.
+
+/// `struct cheukdane_answer`.
+#[repr(C)]
+#[derive(Clone, Copy, Debug, PartialEq, Eq)]
+pub struct Answer {
+    /// 0, or the refusal's number.
+    pub number: u32,
+    /// The refusal's place.
+    pub place: u64,
+}
+
+/// `struct cheukdane_played`.
+#[repr(C)]
+#[derive(Clone, Copy, Debug, PartialEq, Eq)]
+pub struct Played {
+    /// 0, or the refusal's number.
+    pub number: u32,
+    /// The kind of the record that was read; 0 where none was.
+    pub kind: u32,
+    /// Where that record, or what can't be read, starts.
+    pub place: u64,
+    /// Where the next record starts; `place` where none was read.
+    pub next: u64,
+}
+
+/// `struct cheukdane_byte`.
+#[repr(C)]
+#[derive(Clone, Copy, Debug, PartialEq, Eq)]
+pub struct Byte {
+    /// 0, or the refusal's number.
+    pub number: u32,
+    /// The register's byte; 0 with a refusal.
+    pub byte: u32,
+    /// The refusal's place.
+    pub place: u64,
+}
+
+/// `struct cheukdane_written`.
+#[repr(C)]
+#[derive(Clone, Copy, Debug, PartialEq, Eq)]
+pub struct Written {
+    /// 0, or the refusal's number.
+    pub number: u32,
+    /// Bytes of the record; 0 with a refusal.
+    pub count: u32,
+    /// The refusal's place.
+    pub place: u64,
+}
+
+/// `struct cheukdane_compared`.
+#[repr(C)]
+#[derive(Clone, Copy, Debug, PartialEq, Eq)]
+pub struct Compared {
+    /// 0, or the refusal's number.
+    pub number: u32,
+    /// Whose rest it is: 1 or 2; 0 with a refusal.
+    pub log: u32,
+    /// With a refusal, the record's number, from 1; else 0.
+    pub record: u64,
+    /// Where the rest, or the record, starts.
+    pub place: u64,
+}

@@ -1,0 +1,116 @@
+//! A reference model as the bytes of an image, and back.
+
+use crate::layout::{bytes_of, words_of, IMAGE, IMAGE_WORDS};
+use crate::words::Words;
+use reference::event::Sample;
+use reference::number::fold;
+use reference::state::{Comparators, PerStage, State};
+use reference::{Band, Event, Model};
+
+/// A model as an image holds it.
+#[derive(Clone, Copy, Debug, PartialEq, Eq)]
+pub enum Held {
+    /// Before a power-on.
+    Off,
+    /// After one.
+    On(Powered),
+}
+
+/// A powered model: the reference's state, and what that doesn't keep.
+#[derive(Clone, Copy, Debug, PartialEq, Eq)]
+pub struct Powered {
+    /// The power-on's cell code, whatever CELL_PIN is now.
+    pub cell: u32,
+    /// The power-on's stamp.
+    pub stamp: u32,
+    /// The band's number.
+    pub band: u32,
+    /// All else.
+    pub state: State,
+}
+
+impl Powered {
+    /// A powered model whose band is its sample's.
+    pub fn new(cell: u32, stamp: u32, state: State) -> Powered {
+        Powered { cell, stamp, band: band_number(&state), state }
+    }
+}
+
+impl Held {
+    /// The reference's model.
+    pub fn model(&self) -> Model {
+        match self {
+            Held::Off => Model::Off,
+            Held::On(powered) => Model::On(powered.state),
+        }
+    }
+
+    /// What is held after `event` on this made `model`.
+    pub fn after(&self, event: &Event, model: &Model) -> Held {
+        match (model, event, self) {
+            (Model::Off, _, _) => Held::Off,
+            (Model::On(state), Event::PowerOn(profile), _) => {
+                Held::On(Powered::new(profile.cell, profile.stamp, *state))
+            }
+            (Model::On(state), _, Held::On(old)) => {
+                Held::On(Powered::new(old.cell, old.stamp, *state))
+            }
+            (Model::On(_), _, Held::Off) => panic!("{event:?} powered a model"),
+        }
+    }
+}
+
+/// "0 normal, 1 cold, 2 hot, 3 cool, 4 warm", of a state's sample.
+pub fn band_number(state: &State) -> u32 {
+    match reference::band::of_state(state) {
+        Band::Normal => 0,
+        Band::Cold => 1,
+        Band::Hot => 2,
+        Band::Cool => 3,
+        Band::Warm => 4,
+    }
+}
+
+/// The image of a model.
+pub fn of(held: &Held) -> Vec<u8> {
+    match held {
+        Held::Off => vec![0; IMAGE],
+        Held::On(powered) => bytes_of(&words(powered)),
+    }
+}
+
+fn words(powered: &Powered) -> Vec<u32> {
+    let Powered { cell, stamp, band, state } = powered;
+    let mut words = vec![1, *cell, state.pins.vchg, state.pins.ichg, state.ohms, *stamp];
+    words.push(state.ceiling.0);
+    words.extend(stages(&state.limits));
+    words.push(state.period);
+    words.extend(state.settings.0);
+    words.extend(state.control.0.map(u32::from));
+    words.push(state.pins.cell);
+    let overrides = &state.overrides;
+    words.extend([overrides.vchg, overrides.cell, overrides.ichg].map(u32::from));
+    let Comparators { vin_ok, vin_over, short, low, battery_over } = state.comparators;
+    words.extend([vin_ok, vin_over, short, low, battery_over].map(u32::from));
+    words.extend(stages(&state.cycle.times));
+    words.extend([u32::from(state.cycle.done), state.watchdog]);
+    let Sample { stamp, vin, vbat, ibat, ts, bits } = state.sample;
+    words.extend([stamp, vin, vbat, fold(ibat), ts, bits]);
+    words.extend([state.phase, *band, state.flags]);
+    words
+}
+
+fn stages(per: &PerStage) -> [u32; 3] {
+    [per.trickle, per.precharge, per.fast]
+}
+
+/// The model whose image the bytes are, if they are one: of an image's
+/// length, off with zeros alone or on, and each word within its field's type.
+pub fn read(bytes: &[u8]) -> Option<Held> {
+    let words = words_of(bytes).filter(|words| words.len() == IMAGE_WORDS)?;
+    match words[0] {
+        0 => words.iter().all(|word| *word == 0).then_some(Held::Off),
+        1 => Words::new(&words[1..]).powered().map(Held::On),
+        _ => None,
+    }
+}

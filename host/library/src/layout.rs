@@ -1,0 +1,48 @@
+//! The header's constants: lengths of what is lent, and where an image's
+//! words stand.
+
+/// Bytes of a word.
+pub const WORD: usize = 4;
+/// Words of an image.
+pub const IMAGE_WORDS: usize = 54;
+/// Bytes of an image.
+pub const IMAGE: usize = 216;
+/// The word of an image at which the power-on's ten numbers start.
+pub const PROFILE: usize = 1;
+/// The word at which settings 1 to 14 start.
+pub const SETTINGS: usize = 11;
+/// The word at which the registers start.
+pub const REGISTERS: usize = 25;
+/// The word at which the comparators start.
+pub const LATCHES: usize = 35;
+/// The word at which the stages' times and done start.
+pub const CYCLE: usize = 40;
+/// The word of the watchdog's count.
+pub const WATCHDOG: usize = 44;
+/// The word at which the sample's six numbers start.
+pub const SAMPLE: usize = 45;
+/// The word of the phase.
+pub const PHASE: usize = 51;
+/// The word of the band.
+pub const BAND: usize = 52;
+/// The word of the held flags.
+pub const FLAGS: usize = 53;
+/// Bytes of what an accepted event shows.
+pub const SHOWN: usize = 28;
+/// Bytes of a report.
+pub const REPORT: usize = 24;
+/// Bytes of the longest record.
+pub const RECORD: usize = 51;
+
+/// The bytes of words, lowest byte first.
+pub fn bytes_of(words: &[u32]) -> Vec<u8> {
+    words.iter().flat_map(|word| word.to_le_bytes()).collect()
+}
+
+/// The words of bytes, if they come out even.
+pub fn words_of(bytes: &[u8]) -> Option<Vec<u32>> {
+    let words = bytes.chunks_exact(WORD);
+    let even = words.remainder().is_empty();
+    let read = |word: &[u8]| u32::from_le_bytes(word.try_into().expect("four bytes"));
+    even.then(|| words.map(read).collect())
+}

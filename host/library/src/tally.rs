@@ -1,0 +1,26 @@
+//! Which answers a test has met, and how often.
+
+use std::collections::{BTreeMap, BTreeSet};
+
+/// Counts of answers, by their number.
+#[derive(Debug, Default)]
+pub struct Tally(BTreeMap<u32, u64>);
+
+impl Tally {
+    /// Counts one answer.
+    pub fn count(&mut self, number: u32) {
+        *self.0.entry(number).or_default() += 1;
+    }
+
+    /// Fails unless just the answers `numbers` were met.
+    pub fn met_just(&self, numbers: impl IntoIterator<Item = u32>) {
+        let met: BTreeSet<u32> = self.0.keys().copied().collect();
+        assert_eq!(met, numbers.into_iter().collect(), "the answers met: {:?}", self.0);
+    }
+}
+
+/// How many rounds to run: `rounds`, times CHEUKDANE_TIMES for longer runs.
+pub fn times(rounds: u64) -> u64 {
+    let told = std::env::var("CHEUKDANE_TIMES").unwrap_or_else(|_| "1".to_string());
+    rounds * told.parse::<u64>().expect("CHEUKDANE_TIMES is a number")
+}

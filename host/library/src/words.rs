@@ -1,0 +1,117 @@
+//! An image's words, read back into a model.
+
+use crate::image::Powered;
+use reference::event::Sample;
+use reference::number::unfold;
+use reference::pins::{Overrides, Pins};
+use reference::registers::Control;
+use reference::settings::Settings;
+use reference::state::{Comparators, Cycle, PerStage, State};
+use reference::volts::CellMv;
+
+/// An image's words, read one after another.
+pub(crate) struct Words<'words> {
+    left: &'words [u32],
+}
+
+impl<'words> Words<'words> {
+    pub(crate) fn new(left: &'words [u32]) -> Words<'words> {
+        Words { left }
+    }
+
+    fn number(&mut self) -> u32 {
+        let (word, left) = self.left.split_first().expect("a word is left");
+        self.left = left;
+        *word
+    }
+
+    fn below(&mut self, end: u32) -> Option<u32> {
+        Some(self.number()).filter(|word| *word < end)
+    }
+
+    fn bit(&mut self) -> Option<bool> {
+        self.below(2).map(|word| word == 1)
+    }
+
+    fn stages(&mut self) -> PerStage {
+        PerStage { trickle: self.number(), precharge: self.number(), fast: self.number() }
+    }
+
+    /// The model of an image's words after the first, if each word is within
+    /// its field's type. Fields are read in the order they are written here,
+    /// the image's.
+    pub(crate) fn powered(&mut self) -> Option<Powered> {
+        let cell = self.number();
+        let (vchg, ichg, ohms) = (self.number(), self.number(), self.number());
+        let stamp = self.number();
+        let ceiling = CellMv(self.number());
+        let limits = self.stages();
+        let period = self.number();
+        let settings = self.settings()?;
+        let control = self.control()?;
+        let pins = Pins { cell: self.number(), vchg, ichg };
+        let overrides = Overrides { vchg: self.bit()?, cell: self.bit()?, ichg: self.bit()? };
+        let comparators = self.comparators()?;
+        let cycle = Cycle { times: self.stages(), done: self.bit()? };
+        let watchdog = self.number();
+        let sample = self.sample();
+        let phase = self.below(8)?;
+        let band = self.below(5)?;
+        let flags = self.below(1 << 12)?;
+        let state = State {
+            pins,
+            overrides,
+            ohms,
+            ceiling,
+            limits,
+            period,
+            settings,
+            control,
+            comparators,
+            cycle,
+            watchdog,
+            sample,
+            phase,
+            flags,
+        };
+        Some(Powered { cell, stamp, band, state })
+    }
+
+    /// Settings 9 to 13 are switches.
+    fn settings(&mut self) -> Option<Settings> {
+        let mut values = [0; 14];
+        for (number, value) in (1..).zip(&mut values) {
+            *value = if (9..=13).contains(&number) { self.below(2)? } else { self.number() };
+        }
+        Some(Settings(values))
+    }
+
+    fn control(&mut self) -> Option<Control> {
+        let mut bytes = [0; 6];
+        for byte in &mut bytes {
+            *byte = u8::try_from(self.number()).ok()?;
+        }
+        Some(Control(bytes))
+    }
+
+    fn comparators(&mut self) -> Option<Comparators> {
+        Some(Comparators {
+            vin_ok: self.bit()?,
+            vin_over: self.bit()?,
+            short: self.bit()?,
+            low: self.bit()?,
+            battery_over: self.bit()?,
+        })
+    }
+
+    fn sample(&mut self) -> Sample {
+        Sample {
+            stamp: self.number(),
+            vin: self.number(),
+            vbat: self.number(),
+            ibat: unfold(self.number()),
+            ts: self.number(),
+            bits: self.number(),
+        }
+    }
+}

@@ -1,0 +1,164 @@
+//! Answer buffers and record buffers of every length. What doesn't fit is 12
+//! and changes no byte; bytes after what is written stay.
+
+use library::both;
+use library::image::{self, Held, Powered};
+use library::layout::{bytes_of, IMAGE, RECORD, REPORT, SHOWN};
+use library::tally::{times, Tally};
+use reference::event::Profile;
+use reference::generate::{any_event, any_state, Rng};
+use reference::record::{encode, numbers_of};
+use reference::{Event, Sample};
+
+fn any_image(rng: &mut Rng) -> Vec<u8> {
+    let state = any_state(rng);
+    image::of(&Held::On(Powered::new(rng.within(0, 7), rng.any(), state)))
+}
+
+/// A buffer whose bytes tell their places.
+fn buffer(length: usize) -> Vec<u8> {
+    (0..length).map(|at| (at * 7 + 1) as u8).collect()
+}
+
+#[test]
+fn shown_at_every_length() {
+    let mut rng = Rng::new(12);
+    let mut tally = Tally::default();
+    for _ in 0..times(2_000) {
+        let bytes = any_image(&mut rng);
+        let event = any_event(&mut rng);
+        let words = bytes_of(&numbers_of(&event));
+        for length in 0..=2 * SHOWN {
+            let mut shown = buffer(length);
+            let played = both::play(&mut bytes.clone(), &encode(&event), 0, &mut shown);
+            tally.count(played.number);
+            let kind = event.kind().into();
+            let given = both::event(&mut bytes.clone(), kind, &words, &mut buffer(length));
+            assert_eq!(given.number, played.number);
+            assert_eq!(length < SHOWN, played.number == 12);
+            let written = if played.number == 0 { SHOWN } else { 0 };
+            assert_eq!(shown[written..], buffer(length)[written..]);
+        }
+    }
+    tally.met_just([0, 5, 7, 8, 9, 10, 11, 12]);
+}
+
+#[test]
+fn reports_at_every_length() {
+    let mut rng = Rng::new(13);
+    let mut tally = Tally::default();
+    for _ in 0..times(1_000) {
+        let bytes = any_image(&mut rng);
+        for length in 0..=2 * REPORT {
+            tally.count(both::report(&bytes, &mut buffer(length)).number);
+            tally.count(both::report(&[0; IMAGE], &mut buffer(length)).number);
+        }
+    }
+    tally.met_just([0, 6, 12]);
+}
+
+/// "5 before all else; then an answer buffer that is too short is 12; then
+/// what the call is about is judged."
+#[test]
+fn a_short_buffer_comes_after_the_image_and_before_all_else() {
+    let mut tally = Tally::default();
+    let logs: [&[u8]; 6] =
+        [&[], &[9], &[2], &[2, 0x80, 0], &[4], &[2, 0xFF, 0xFF, 0xFF, 0xFF, 0xFF]];
+    for length in 0..SHOWN {
+        for log in logs {
+            tally.count(both::play(&mut [0; IMAGE], log, 0, &mut buffer(length)).number);
+            assert_eq!(both::play(&mut [2; IMAGE], log, 0, &mut buffer(length)).number, 5);
+        }
+        for kind in [0, 1, 4, 8, 256] {
+            tally.count(both::event(&mut [0; IMAGE], kind, &[], &mut buffer(length)).number);
+            assert_eq!(both::event(&mut [2; IMAGE], kind, &[], &mut buffer(length)).number, 5);
+        }
+    }
+    tally.met_just([12]);
+    for length in 0..=REPORT {
+        assert_eq!(both::report(&[2; IMAGE], &mut buffer(length)).number, 5);
+    }
+}
+
+fn write_at_every_length(event: &Event, tally: &mut Tally) {
+    let words = bytes_of(&numbers_of(event));
+    let record = encode(event);
+    for length in 0..=RECORD + 5 {
+        let mut out = buffer(length);
+        let written = both::write(event.kind().into(), &words, &mut out);
+        tally.count(written.number);
+        if written.number == 0 {
+            assert!(out.starts_with(&record));
+            assert_eq!(written.count as usize, record.len());
+        }
+    }
+}
+
+#[test]
+fn records_at_every_length() {
+    let mut rng = Rng::new(14);
+    let mut tally = Tally::default();
+    for _ in 0..times(8_000) {
+        write_at_every_length(&any_event(&mut rng), &mut tally);
+    }
+    tally.met_just([0, 12]);
+}
+
+/// Numbers at every border of their spellings' lengths, one after another.
+#[test]
+fn records_of_every_width() {
+    let mut tally = Tally::default();
+    for shift in 0..32 {
+        for value in [(1u32 << shift) - 1, 1 << shift, (1 << shift) + 1, u32::MAX] {
+            write_at_every_length(&Event::Set { number: value, value: 0 }, &mut tally);
+            write_at_every_length(&Event::Write { address: 0, byte: value }, &mut tally);
+            let ibat = reference::number::unfold(value);
+            let sample = Sample { stamp: value, vin: 0, vbat: value, ibat, ts: 0, bits: value };
+            write_at_every_length(&Event::Observe(sample), &mut tally);
+        }
+    }
+    tally.met_just([0, 12]);
+}
+
+#[test]
+fn the_longest_record() {
+    let most = u32::MAX;
+    let longest = Event::PowerOn(Profile {
+        cell: most,
+        vchg: most,
+        ichg: most,
+        ohms: most,
+        stamp: most,
+        ceiling: most,
+        trickle: most,
+        precharge: most,
+        fast: most,
+        watchdog: most,
+    });
+    assert_eq!(encode(&longest).len(), RECORD);
+    write_at_every_length(&longest, &mut Tally::default());
+}
+
+/// A log written event by event, each lent the part that is left, is the
+/// events' log.
+#[test]
+fn a_log_written_into_what_is_left() {
+    let mut rng = Rng::new(15);
+    for seed in 0..times(2_000) {
+        let events = reference::generate::plausible_events(seed, 20);
+        let mut log = vec![0xEE; 400 + rng.place(100)];
+        let mut place = 0;
+        let mut whole = Vec::new();
+        for event in &events {
+            let words = bytes_of(&numbers_of(event));
+            let written = both::write(event.kind().into(), &words, &mut log[place..]);
+            if written.number == 12 {
+                break;
+            }
+            place += written.count as usize;
+            whole.extend(encode(event));
+        }
+        assert_eq!(log[..place], whole);
+        assert!(log[place..].iter().all(|byte| *byte == 0xEE));
+    }
+}
