@@ -10,7 +10,6 @@ use std::path::Path;
 use std::process::Command;
 
 /// A chain of calls and the stack that it takes.
-#[derive(Clone)]
 struct Chain {
     bytes: u64,
     names: Vec<String>,
@@ -75,7 +74,21 @@ pub fn show(archive: &Path) {
             println!("  {what} is no function of its own here: the calls above have it in them");
         }
     }
-    let outside: Vec<String> =
-        reached(&all, asked).into_iter().filter(|name| !all.contains_key(name)).collect();
-    println!("  called, but not in the archive, and counted as 0: {}", outside.join(", "));
+    let reached = reached(&all, asked);
+    let (inside, outside): (Vec<&String>, Vec<&String>) =
+        reached.iter().partition(|name| all.contains_key(*name));
+    let again = inside.into_iter().filter(|name| calls_itself(&all, name)).collect();
+    println!("  call themselves, and are counted once: {}", joined(again));
+    println!("  called, but not in the archive, and counted as 0: {}", joined(outside));
+}
+
+fn calls_itself(all: &BTreeMap<String, Function>, name: &str) -> bool {
+    reached(all, all[name].calls.clone()).contains(name)
+}
+
+fn joined(names: Vec<&String>) -> String {
+    match names.as_slice() {
+        [] => "none".to_string(),
+        _ => names.iter().map(|name| name.as_str()).collect::<Vec<_>>().join(", "),
+    }
 }

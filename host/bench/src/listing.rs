@@ -19,19 +19,16 @@ pub struct Function {
 pub fn functions(listing: &str) -> BTreeMap<String, Function> {
     let mut all = BTreeMap::new();
     let mut current: Option<(String, Function)> = None;
-    let mut calling = false;
-    for line in listing.lines() {
+    let mut lines = listing.lines().peekable();
+    while let Some(line) = lines.next() {
         if let Some(name) = header(line) {
             all.extend(current.replace((name, first_frame(listing))));
-        } else if let Some((_, function)) = &mut current {
-            if let Some(target) = relocation(line).filter(|_| calling) {
-                function.calls.insert(target);
-                calling = false;
-            } else if let Some((operation, operands)) = instruction(line) {
-                function.frame += taken(operation, operands);
-                calling = matches!(operation, "bl" | "b" | "call" | "jmp");
-                function.calls.extend(target_within(operation, operands));
-            }
+        } else if let (Some((_, function)), Some((operation, operands))) =
+            (&mut current, instruction(line))
+        {
+            let after = lines.peek().copied().unwrap_or_default();
+            function.frame += taken(operation, operands);
+            function.calls.extend(called(operation, operands, after));
         }
     }
     all.extend(current);
@@ -66,11 +63,19 @@ fn instruction(line: &str) -> Option<(&str, &str)> {
     Some((operation.strip_suffix('q').unwrap_or(operation), operands))
 }
 
-/// A call to a place of the same section, which needs no relocation:
-/// `call 40 <name>`. A place within a function, `<name+0x8>`, is no call.
-fn target_within(operation: &str, operands: &str) -> Option<String> {
-    let calls = matches!(operation, "bl" | "call");
-    let (_, name) = operands.split_once('<').filter(|_| calls)?;
+/// What an instruction calls, or ends with: the function of the relocation in
+/// the line after it, or else a place of the same section, `call 40 <name>`.
+fn called(operation: &str, operands: &str, after: &str) -> Option<String> {
+    match operation {
+        "bl" | "call" => relocation(after).or_else(|| within(operands)),
+        "b" | "jmp" => relocation(after),
+        _ => None,
+    }
+}
+
+/// The function that starts at the place of a call's operand.
+fn within(operands: &str) -> Option<String> {
+    let (_, name) = operands.split_once('<')?;
     let name = name.trim_end().strip_suffix('>')?;
     (!name.contains("+0x")).then(|| name.to_string())
 }
@@ -155,7 +160,7 @@ f.o:     file format elf64-x86-64
 
     fn frames(listing: &str) -> [u64; 2] {
         let all = functions(listing);
-        assert!(all["outer"].calls.contains("a::inner"));
+        assert!(all["outer"].calls.contains("a::inner") && !all["outer"].calls.contains("outer"));
         ["outer", "a::inner"].map(|name| all[name].frame)
     }
 

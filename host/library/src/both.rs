@@ -28,8 +28,8 @@ impl Lent {
     fn left(&self) -> &[u8] {
         let (before, rest) = self.0.split_at(BESIDE);
         let (part, after) = rest.split_at(rest.len() - BESIDE);
-        let beside = before.iter().chain(after);
-        assert!(beside.into_iter().all(|byte| *byte == BESIDE_BYTE), "a byte beside was written");
+        let mut beside = before.iter().chain(after);
+        assert!(beside.all(|byte| *byte == BESIDE_BYTE), "a byte beside was written");
         part
     }
 }
@@ -51,14 +51,6 @@ fn agreed<T: Debug + PartialEq>(
     answer
 }
 
-/// Lends bytes that may only be read.
-fn only_read<T>(bytes: &[u8], call: impl FnOnce(&[u8]) -> T) -> T {
-    let mut lent = Lent::new(bytes);
-    let answer = call(lent.part());
-    assert_eq!(lent.left(), bytes, "bytes that were lent to be read");
-    answer
-}
-
 /// The same of two buffers, an image and what is shown.
 fn agreed_on_two<T: Debug + PartialEq>(
     image: &mut [u8],
@@ -75,6 +67,14 @@ fn agreed_on_two<T: Debug + PartialEq>(
         &told,
     );
     assert_eq!(lent_shown.left(), shown, "what is shown: {}", told());
+    answer
+}
+
+/// Lends bytes that may only be read.
+fn only_read<T>(bytes: &[u8], call: impl FnOnce(&[u8]) -> T) -> T {
+    let mut lent = Lent::new(bytes);
+    let answer = call(lent.part());
+    assert_eq!(lent.left(), bytes, "bytes that were lent to be read");
     answer
 }
 

@@ -177,7 +177,7 @@ fn a_cell_code_above_seven() {
     assert_eq!(lend(&bytes, &Event::Service), [5, 5, 0, 0]);
 }
 
-/// "The held band": flag 7 is between it and the band after the event, and
+/// The band is held: flag 7 is between it and the band after the event, and
 /// the report is by it.
 #[test]
 fn a_band_that_is_not_the_samples() {

@@ -136,7 +136,7 @@ fn single_records_on_models_that_do_not_pass() {
     tally.met_just([5]);
 }
 
-/// "An unreadable record is no event": 1-4 come before a model's own 5.
+/// An unreadable record is no event: 1-4 come before a model's own 5.
 #[test]
 fn unreadable_records_on_models_that_do_not_pass() {
     let mut rng = Rng::new(6);
