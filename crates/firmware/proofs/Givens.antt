@@ -1,7 +1,7 @@
 -- What `event_of` asks: the event of a kind and its words.
 use Prim.Native.Nat.{ℕ, _*_, _≤_, _<_}
-use mathlib.Core.Path.{_≡_, refl, sym, ap, _∙_}
-use mathlib.Core.List.{List, [], _∷_}
+use mathlib.Core.Path.{_≡_, sym, ap, _∙_}
+use mathlib.Core.List.{List}
 use mathlib.Core.Option.{none, some}
 use native.Mathlib.Omega.{arith}
 use lib.ListN.{length, take}
@@ -37,5 +37,5 @@ module _ (kind : ℕ) (bytes : List ℕ) where
   given-is k count all event e ec few h ea ee =
       let long : length (wordsIn 10 bytes) ≡ 10 = length-words 10 bytes in
       let same : event ≡ eventOf k (wordsIn count bytes) =
-          ee ∙ ap (eventOf k) ea ∙ sym (first-few k (wordsIn 10 bytes) long) ∙ ap (λ n. eventOf k (take n (wordsIn 10 bytes))) (sym ec) ∙ ap (eventOf k) (few-words count 10 bytes few) in
+      ee ∙ ap (eventOf k) ea ∙ sym (first-few k (wordsIn 10 bytes) long) ∙ ap (λ n. eventOf k (take n (wordsIn 10 bytes))) (sym ec) ∙ ap (eventOf k) (few-words count 10 bytes few) in
       rw (e, ← ec, eq-eqb (length bytes) (count * 4) h, same)

@@ -1,6 +1,6 @@
 -- What the calls that move a model ask, over plain values.
 use Prim.Native.Nat.{ℕ}
-use mathlib.Core.Path.{_≡_, refl, sym, ap, _∙_}
+use mathlib.Core.Path.{_≡_, sym, _∙_}
 use mathlib.Core.Bool.{Bool, true, false}
 use mathlib.Core.List.{List, [], _∷_}
 use mathlib.Core.Logic.{⊎-elim}
@@ -9,7 +9,6 @@ use types.Run.{OneOf}
 use denote.Enum.Declared.{tagOf}
 use lib.ListN.{length}
 use Rattle.base.specs.Refusals.{refusalNumber}
-use Rattle.base.specs.Told.{Told, accepted, refused}
 use Rattle.base.specs.declared.refusal.Refusal.{Refusal}
 use Rattle.parts.specs.declared.state.Model.{Model}
 use Rattle.parts.specs.declared.state.Model.the-variants.{Off}
@@ -25,7 +24,7 @@ use Rattle.charger.specs.Steps.{stepOf}
 use Rattle.image.specs.Images.{isLong, savedIn}
 use Rattle.firmware.specs.Given.{givenTold, givenOf}
 use Rattle.firmware.specs.Landing.{left, Both, both, answered, readyTold, readyOf, landOf}
-use Rattle.firmware.specs.Playing.{offOf, unread, stoppedOf, playedOf, playOf, eventCallOf}
+use Rattle.firmware.specs.Playing.{offOf, unread, stoppedOf, playOf, eventCallOf}
 use Rattle.firmware.specs.declared.answer.Played.{Played}
 use Rattle.firmware.specs.declared.given.Given.{Given}
 use Rattle.firmware.specs.declared.given.Given.the-variants as given

@@ -1,10 +1,9 @@
 -- What the calls that look at a model ask, over plain values.
 use Prim.Native.Nat.{ℕ}
-use mathlib.Core.Path.{_≡_, refl, sym, ap, _∙_}
+use mathlib.Core.Path.{_≡_}
 use mathlib.Core.List.{List}
 use lib.ListN.{length}
 use Rattle.base.specs.Refusals.{refusalNumber}
-use Rattle.base.specs.Told.{accepted}
 use Rattle.base.specs.Writing.{put}
 use Rattle.base.specs.declared.refusal.Refusal.{Refusal}
 use Rattle.parts.specs.declared.state.State.{State}

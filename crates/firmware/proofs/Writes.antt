@@ -1,6 +1,6 @@
 -- What `cheukdane_write` asks, over plain values.
 use Prim.Native.Nat.{ℕ}
-use mathlib.Core.Path.{_≡_, refl, sym, ap, _∙_}
+use mathlib.Core.Path.{_≡_, sym, ap, _∙_}
 use mathlib.Core.List.{List}
 use native.Mathlib.Omega.{arith}
 use lib.ListN.{length}
@@ -8,7 +8,7 @@ use lib.Dec.{leb}
 use mathlib.Core.Bool.{Bool, true, false}
 use Rattle.base.specs.Pick.{pick}
 use Rattle.base.specs.Refusals.{refusalNumber}
-use Rattle.base.specs.Writing.{Wrote, wrote, refused, written, writtenTold, put}
+use Rattle.base.specs.Writing.{wrote, refused, written, writtenTold, put}
 use Rattle.base.specs.declared.refusal.Refusal.{Refusal}
 use Rattle.base.specs.declared.written.Written.{Written}
 use Rattle.base.specs.declared.written.Written.the-variants.{Count, Refused}
@@ -16,7 +16,7 @@ use Rattle.event.specs.declared.Event.{Event}
 use Rattle.record.specs.Records.{spellEvent}
 use Rattle.firmware.specs.Given.{givenTold, givenOf}
 use Rattle.firmware.specs.Landing.{Left, left}
-use Rattle.firmware.specs.Writing.{putTold, writeCallOf}
+use Rattle.firmware.specs.Writing.{writeCallOf}
 use Rattle.firmware.specs.declared.answer.Put.{Put}
 use Rattle.firmware.specs.declared.given.Given.{Given}
 use Rattle.firmware.specs.declared.given.Given.the-variants as given

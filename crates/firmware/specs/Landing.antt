@@ -2,7 +2,6 @@
 use Prim.Native.Nat.{ℕ}
 use mathlib.Core.Bool.{Bool}
 use mathlib.Core.List.{List, [], _∷_}
-use lib.ListN.{length}
 use lib.Dec.{ltb, eqb}
 use Rattle.base.specs.Pick.{pick, bitOf}
 use Rattle.base.specs.Refusals.{refusalNumber}
@@ -10,9 +9,7 @@ use Rattle.base.specs.Told.{Told, accepted, refused}
 use Rattle.base.specs.Writing.{put}
 use Rattle.parts.specs.Edges.{flagsNumber}
 use Rattle.parts.specs.declared.flags.Flags.{Flags}
-use Rattle.parts.specs.declared.state.State.{State}
 use Rattle.parts.specs.declared.state.Model.{Model}
-use Rattle.parts.specs.declared.state.Model.the-variants.{Off, On}
 use Rattle.shown.specs.Lines.{lineOf}
 use Rattle.moves.specs.Plain.{Outcome}
 use Rattle.words.specs.Words.{bytesOf}

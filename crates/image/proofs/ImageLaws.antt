@@ -1,26 +1,23 @@
 -- Images: load after save is the model, and one image each.
-use Prim.Native.Nat.{ℕ, _*_}
+use Prim.Native.Nat.{ℕ}
 use mathlib.Core.Path.{_≡_, refl, sym, ap, _∙_}
 use mathlib.Core.Bool.{Bool, true, false}
-use mathlib.Core.List.{List, [], _∷_}
+use mathlib.Core.List.{List, _∷_}
 use native.Mathlib.Omega.{arith}
 use lib.ListN.{length, drop}
 use Rattle.base.specs.Pick.{pick}
-use Rattle.base.specs.Told.{Told, accepted, refused}
+use Rattle.base.specs.Told.{accepted, refused}
 use Rattle.parts.specs.declared.state.State.{State}
 use Rattle.parts.specs.declared.state.Model.{Model}
 use Rattle.parts.specs.declared.state.Model.the-variants.{Off, On}
 use Rattle.words.specs.Words.{bytesOf, wordAt, wordsIn}
 use Rattle.words.specs.Same.{sameBytes}
-use Rattle.words.specs.Promises.{AllWords}
 use Rattle.words.proofs.WordLaws.{length-bytes, reads-back}
 use Rattle.words.proofs.Sames.{same-told}
 use Rattle.listing.specs.Numbers.{stateNumbers}
-use Rattle.listing.specs.Back.{stateFrom}
 use Rattle.listing.proofs.Again.{state-long, made-again}
-use Rattle.image.specs.Images.{modelNumbers, imageOf, modelFrom, modelIn, loadedTold}
+use Rattle.image.specs.Images.{modelNumbers, imageOf, modelFrom, modelIn}
 use Rattle.image.specs.Promises.{Storable, LoadsBack, OneImage, ImageLong, ImagesDiffer, OneAnswer}
-use Rattle.image.specs.declared.Loaded.{Loaded}
 use Rattle.image.specs.declared.Loaded.the-variants.{Held, NoImage}
 
 numbers-long : (m : Model) → length (modelNumbers m) ≡ 54

@@ -1,19 +1,16 @@
 -- A state's numbers make the state again.
 use Prim.Native.Nat.{ℕ, _%_, _<_}
-use mathlib.Core.Path.{_≡_, refl, sym, ap, _∙_}
+use mathlib.Core.Path.{_≡_, refl}
 use native.Mathlib.Omega.{arith}
-use lib.ListN.{length}
 use Rattle.parts.specs.Numbers.{phaseNumber, bandNumber}
 use Rattle.parts.specs.declared.band.Band.{Band}
 use Rattle.parts.specs.declared.band.Band.the-variants.{Normal, Cold, Hot, Cool, Warm}
 use Rattle.parts.specs.declared.phase.Phase.{Phase}
 use Rattle.parts.specs.declared.phase.Phase.the-variants.{Idle, Trickle, Precharge, Fast, Taper, Done, Suspended, Fault}
-use Rattle.parts.specs.declared.state.State.{State}
-use Rattle.event.specs.Ibat.{loggedOf, signedOf}
 use Rattle.event.proofs.Remaking.{signs}
 use Rattle.listing.specs.Numbers.{stateNumbers}
 use Rattle.listing.specs.Back.{phaseFrom, bandFrom, stateFrom}
-use Rattle.listing.specs.Promises.{Stored, MadeAgain, StateLong}
+use Rattle.listing.specs.Promises.{MadeAgain, StateLong}
 use Rattle.listing.proofs.FlagBits.{test-back, flags-back}
 
 pub state-long : StateLong

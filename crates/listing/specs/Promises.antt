@@ -1,5 +1,5 @@
 -- What is promised of a state's numbers: the types of the theorems that proofs/ proves.
-use Prim.Native.Nat.{ℕ, _<_}
+use Prim.Native.Nat.{_<_}
 use mathlib.Core.Path.{_≡_}
 use lib.ListN.{length}
 use Rattle.parts.specs.declared.registers.Registers.{Registers}

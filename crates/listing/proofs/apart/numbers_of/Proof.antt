@@ -1,3 +1,4 @@
+-- `numbers_of` meets its contract: each part's stores, one after the other.
 use Rattle.listing.specs.Numbers.{stateNumbers}
 use borrow.Author.Needs.{needs}
 use Rattle.listing.proofs.apart.numbers_of.Statement.{statement}

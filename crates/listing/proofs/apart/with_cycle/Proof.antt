@@ -1,3 +1,4 @@
+-- `with_cycle` meets its contract.
 use borrow.Author.Needs.{needs}
 use Rattle.listing.proofs.apart.with_cycle.Statement.{statement}
 use Rattle.listing.proofs.apart.with_cycle.Tie as tie

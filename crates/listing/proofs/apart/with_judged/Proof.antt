@@ -1,3 +1,4 @@
+-- `with_judged` meets its contract.
 use borrow.Author.Needs.{needs}
 use Rattle.listing.proofs.apart.with_judged.Statement.{statement}
 use Rattle.listing.proofs.apart.with_judged.Tie as tie

@@ -1,3 +1,4 @@
+-- `with_latches` meets its contract.
 use borrow.Author.Needs.{needs}
 use Rattle.listing.proofs.apart.with_latches.Statement.{statement}
 use Rattle.listing.proofs.apart.with_latches.Tie as tie

@@ -1,3 +1,4 @@
+-- `with_registers` meets its contract.
 use borrow.Author.Needs.{needs}
 use Rattle.listing.proofs.apart.with_registers.Statement.{statement}
 use Rattle.listing.proofs.apart.with_registers.Tie as tie

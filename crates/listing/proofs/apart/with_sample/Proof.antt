@@ -1,3 +1,4 @@
+-- `with_sample` meets its contract; the battery's current as it is logged.
 use mir.Syntax.{w32}
 use mir.ValLaws.{toZ-ofZ}
 use borrow.Author.Needs.{needs}

@@ -1,3 +1,4 @@
+-- `with_settings` meets its contract.
 use borrow.Author.Needs.{needs}
 use Rattle.listing.proofs.apart.with_settings.Statement.{statement}
 use Rattle.listing.proofs.apart.with_settings.Tie as tie

@@ -1,3 +1,4 @@
+-- `band` meets its contract, number by number.
 use borrow.Author.Tests.{ne-eqb}
 use Rattle.listing.proofs.back.band.Statement.{statement}
 use Rattle.listing.proofs.back.band.Tie as tie

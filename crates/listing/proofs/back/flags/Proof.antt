@@ -1,3 +1,4 @@
+-- `flags` meets its contract, bit by bit.
 use borrow.Author.Needs.{needs}
 use Rattle.listing.specs.Back.{flagsFrom}
 use Rattle.listing.proofs.back.flags.Statement.{statement}

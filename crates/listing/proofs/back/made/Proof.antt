@@ -1,3 +1,4 @@
+-- `made` meets its contract, part by part.
 use Rattle.listing.specs.Back.{stateFrom}
 use borrow.Author.Needs.{needs}
 use Rattle.listing.proofs.back.made.Statement.{statement}

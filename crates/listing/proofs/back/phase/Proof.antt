@@ -1,3 +1,4 @@
+-- `phase` meets its contract, number by number.
 use borrow.Author.Tests.{ne-eqb}
 use Rattle.listing.proofs.back.phase.Statement.{statement}
 use Rattle.listing.proofs.back.phase.Tie as tie

@@ -1,3 +1,4 @@
+-- `sample` meets its contract; the battery's current out of its logged number.
 use mir.Syntax.{w32}
 use mir.ValLaws.{toZ-ofZ}
 use borrow.Author.Needs.{needs}

@@ -1,3 +1,4 @@
+-- `settings` meets its contract.
 use borrow.Author.Needs.{needs}
 use Rattle.listing.proofs.back.settings.Statement.{statement}
 use Rattle.listing.proofs.back.settings.Tie as tie
