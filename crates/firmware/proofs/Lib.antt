@@ -1,5 +1,4 @@
 -- The laws of the crate `firmware`.
-mod Givens
 mod Lands
 mod Plays
 mod Shows

@@ -22,12 +22,12 @@ use Rattle.record.proofs.answer.Read as read-type
 use Rattle.moves.specs.Plain.{Outcome}
 use Rattle.charger.specs.Steps.{stepOf}
 use Rattle.image.specs.Images.{isLong, savedIn}
-use Rattle.firmware.specs.Given.{givenTold, givenOf}
+use Rattle.given.specs.Given.{givenTold, givenOf}
 use Rattle.firmware.specs.Landing.{left, Both, both, answered, readyTold, readyOf, landOf}
 use Rattle.firmware.specs.Playing.{offOf, unread, stoppedOf, playOf, eventCallOf}
 use Rattle.firmware.specs.declared.answer.Played.{Played}
-use Rattle.firmware.specs.declared.given.Given.{Given}
-use Rattle.firmware.specs.declared.given.Given.the-variants as given
+use Rattle.given.specs.declared.Given.{Given}
+use Rattle.given.specs.declared.Given.the-variants as given
 use Rattle.firmware.specs.declared.landing.Ready.{Ready}
 use Rattle.firmware.specs.declared.landing.Ready.the-variants as ready
 

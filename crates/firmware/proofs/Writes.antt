@@ -14,12 +14,12 @@ use Rattle.base.specs.declared.written.Written.{Written}
 use Rattle.base.specs.declared.written.Written.the-variants.{Count, Refused}
 use Rattle.event.specs.declared.Event.{Event}
 use Rattle.record.specs.Records.{spellEvent}
-use Rattle.firmware.specs.Given.{givenTold, givenOf}
+use Rattle.given.specs.Given.{givenTold, givenOf}
 use Rattle.firmware.specs.Landing.{Left, left}
 use Rattle.firmware.specs.Writing.{writeCallOf}
 use Rattle.firmware.specs.declared.answer.Put.{Put}
-use Rattle.firmware.specs.declared.given.Given.{Given}
-use Rattle.firmware.specs.declared.given.Given.the-variants as given
+use Rattle.given.specs.declared.Given.{Given}
+use Rattle.given.specs.declared.Given.the-variants as given
 
 -- a count of bytes that were written is the record's
 the-count : (bytes out : List ℕ) (n : ℕ) → wrote n ≡ written bytes out → n ≡ length bytes

@@ -13,7 +13,7 @@ use Rattle.record.specs.Records.{Met, met, end, recordAt}
 use Rattle.record.specs.Records as log
 use Rattle.charger.specs.Steps.{stepOf}
 use Rattle.image.specs.Images.{imageOf, isLong}
-use Rattle.firmware.specs.Given.{givenOf}
+use Rattle.given.specs.Given.{givenOf}
 use Rattle.firmware.specs.Landing.{Left, left, Both, both, answered, readyOf, landOf}
 use Rattle.firmware.specs.declared.answer.Answer.{Answer}
 use Rattle.firmware.specs.declared.answer.Played.{Played}

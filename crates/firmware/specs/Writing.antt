@@ -6,7 +6,7 @@ use Rattle.base.specs.Writing.{Wrote, wrote, written, put}
 use Rattle.base.specs.Writing as writing
 use Rattle.event.specs.declared.Event.{Event}
 use Rattle.record.specs.Records.{spellEvent}
-use Rattle.firmware.specs.Given.{givenOf}
+use Rattle.given.specs.Given.{givenOf}
 use Rattle.firmware.specs.Landing.{Left, left}
 use Rattle.firmware.specs.declared.answer.Put.{Put}
 

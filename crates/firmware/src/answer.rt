@@ -30,3 +30,14 @@ pub struct Put {
     pub count: u32,
     pub place: usize,
 }
+
+#[repr(C)]
+pub struct ComparedLogs {
+    pub number: u32,
+    // whose rest it is: 1 or 2; 0 with a refusal
+    pub log: u32,
+    // with a refusal, the record's number, from 1; else 0
+    pub count: usize,
+    // where the rest, or the record, starts
+    pub place: usize,
+}

@@ -1,6 +1,6 @@
 // What a head's C firmware calls: a handful of functions on numbers and byte slices.
 pub mod answer;
-pub mod given;
+pub mod comparing;
 pub mod landing;
 pub mod playing;
 pub mod showing;

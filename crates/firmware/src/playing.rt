@@ -5,13 +5,12 @@ ghost use Rattle.firmware.specs.Landing.{left, both};
 ghost use Rattle.firmware.specs.Playing.{offOf, stoppedOf, playOf, eventCallOf};
 use crate::answer::Answer;
 use crate::answer::Played;
-use crate::given;
-use crate::given::Given;
 use crate::landing;
 use crate::landing::Ready;
 use base::refusal;
 use charger::step;
 use event::kinds;
+use given::Given;
 use parts::state::Model;
 use record::answer::Read;
 

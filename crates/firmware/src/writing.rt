@@ -3,10 +3,9 @@ ghost use mathlib.Core.Path.{_≡_};
 ghost use Rattle.firmware.specs.Landing.{left};
 ghost use Rattle.firmware.specs.Writing.{writeCallOf};
 use crate::answer::Put;
-use crate::given;
-use crate::given::Given;
 use base::refusal;
 use base::written::Written;
+use given::Given;
 
 // Writes an event's record at the start of `out`.
 #[no_mangle]

@@ -15,7 +15,8 @@ use Rattle.words.specs.Same.{sameBytes}
 use Rattle.words.proofs.WordLaws.{length-bytes, reads-back}
 use Rattle.words.proofs.Sames.{same-told}
 use Rattle.listing.specs.Numbers.{stateNumbers}
-use Rattle.listing.proofs.Again.{state-long, made-again}
+use Rattle.listing.proofs.Lengths.{state-long}
+use Rattle.remade.proofs.Again.{made-again}
 use Rattle.image.specs.Images.{modelNumbers, imageOf, modelFrom, modelIn}
 use Rattle.image.specs.Promises.{Storable, LoadsBack, OneImage, ImageLong, ImagesDiffer, OneAnswer}
 use Rattle.image.specs.declared.Loaded.the-variants.{Held, NoImage}

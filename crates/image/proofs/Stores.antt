@@ -20,7 +20,7 @@ use Rattle.words.specs.Words.{bytesOf, wordAt, wordsIn}
 use Rattle.words.specs.Same.{sameBytes}
 use Rattle.words.proofs.WordLaws.{length-bytes, sets-whole}
 use Rattle.words.proofs.Sames.{differ}
-use Rattle.listing.specs.Back.{stateFrom}
+use Rattle.remade.specs.Back.{stateFrom}
 use Rattle.image.specs.Images.{imageOf, modelFrom, modelIn, savedIn}
 use Rattle.image.proofs.ImageLaws.{image-long}
 

@@ -11,7 +11,7 @@ use Rattle.parts.specs.declared.state.Model.the-variants.{Off, On}
 use Rattle.words.specs.Words.{bytesOf, wordAt, wordsIn}
 use Rattle.words.specs.Same.{sameBytes}
 use Rattle.listing.specs.Numbers.{stateNumbers}
-use Rattle.listing.specs.Back.{stateFrom}
+use Rattle.remade.specs.Back.{stateFrom}
 use Rattle.image.specs.declared.Loaded.{Loaded}
 use Rattle.image.specs.declared.Loaded.the-variants.{Held, NoImage}
 

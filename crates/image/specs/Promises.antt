@@ -7,7 +7,7 @@ use Rattle.base.specs.Told.{accepted}
 use Rattle.parts.specs.declared.state.Model.{Model}
 use Rattle.parts.specs.declared.state.Model.the-variants.{Off, On}
 use Rattle.words.specs.Promises.{AllWords}
-use Rattle.listing.specs.Promises.{Stored}
+use Rattle.remade.specs.Promises.{Stored}
 use Rattle.listing.specs.Numbers.{stateNumbers}
 use Rattle.image.specs.Images.{imageOf, modelIn, loadedTold}
 use Rattle.image.specs.declared.Loaded.{Loaded}

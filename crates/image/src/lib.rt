@@ -1,7 +1,5 @@
 // A model's image: its numbers as words, and the model back out of them.
 use listing::Numbers;
-use listing::apart;
-use listing::back;
 use parts::state::Model;
 ghost use mathlib.Core.Path.{_≡_};
 ghost use mathlib.Core.List.{_∷_};
@@ -35,7 +33,7 @@ fn put_model(image: &mut [u8], m: Model)
             let none = [0u32; 53];
             put(image, 0, none)
         }
-        Model::On(s) => put(image, 1, apart::numbers_of(s)),
+        Model::On(s) => put(image, 1, listing::numbers_of(s)),
     }
 }
 
@@ -62,7 +60,7 @@ fn model_from(image: &[u8]) -> Model
     }
     let mut all = [0u32; 53];
     words::read(&image[4..], &mut all);
-    Model::On(back::made(all))
+    Model::On(remade::made(all))
 }
 
 // Loads the model of an image.

@@ -1,3 +1,2 @@
 -- The laws of the crate `listing`.
-pub mod FlagBits
-pub mod Again
+pub mod Lengths

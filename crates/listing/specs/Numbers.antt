@@ -1,6 +1,8 @@
 -- The numbers of a state: one list, part after part. The header: "The state's numbers follow, from these words on."
 use Prim.Native.Nat.{ℕ}
+use mathlib.Core.Path.{_≡_}
 use mathlib.Core.List.{List, [], _∷_, _++_}
+use lib.ListN.{length}
 use Rattle.base.specs.Pick.{bitOf}
 use Rattle.base.specs.Volts.{millivoltsOf}
 use Rattle.parts.specs.Edges.{flagsNumber}
@@ -60,3 +62,7 @@ stateNumbers s =
     ++ watchdogNumbers (s .watchdog)
     ++ sampleNumbers (s .sample)
     ++ judgedNumbers s
+
+-- every state has as many
+abbrev pub StateLong : Type 0
+StateLong = (s : State) → length (stateNumbers s) ≡ 53

@@ -1,0 +1,3 @@
+-- The laws of the crate `given`.
+mod Givens
+pub mod Answers

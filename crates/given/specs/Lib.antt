@@ -1,0 +1,3 @@
+-- The definitions of the crate `given`.
+pub mod Given
+pub mod Promises

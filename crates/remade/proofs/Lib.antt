@@ -1,0 +1,3 @@
+-- The laws of the crate `remade`.
+pub mod FlagBits
+pub mod Again

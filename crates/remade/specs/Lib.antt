@@ -1,0 +1,3 @@
+-- The definitions of the crate `remade`.
+pub mod Back
+pub mod Promises
