@@ -10,11 +10,12 @@ use Rattle.base.proofs.Answers.{written-one}
 use Rattle.number.proofs.Answers.{number-one}
 use Rattle.record.proofs.Answers.{read-one}
 use Rattle.steplaws.proofs.Answers.{step-once}
+use Rattle.logs.proofs.Answers.{compared-one}
 use Rattle.outcome.specs.One.{One, Tells, TellsBytes, itself}
 use Rattle.charger.specs.Pages.{Passed, pageTold}
 use Rattle.charger.specs.declared.walking.Walk.{Walk}
 use Rattle.charger.specs.declared.paging.Page.{Page}
-use Rattle.outcome.specs.Calls.{Turned, CodecCalls, ReaderCalls, ModelCalls, TextCalls}
+use Rattle.outcome.specs.Calls.{Turned, CodecCalls, ReaderCalls, ModelCalls, LogsCalls, TextCalls}
 use Rattle.outcome.proofs.Settling.{contract-settles, contract-settles-bytes, itself-settles}
 use Rattle.outcome.proofs.Answers.{known-settled, read-settled, write-settled, walk-settled}
 
@@ -79,5 +80,14 @@ model-calls =
       turn = λ log from a b. turned log from a b;
     }
 
+pub logs-calls : LogsCalls
+logs-calls =
+    record {
+      compare = λ a b. contract-settles _ _ _ compared-one _;
+      compare-inputs = λ a b. contract-settles _ _ _ compared-one _;
+      rest = λ a b. plain _;
+    }
+
 pub text-calls : TextCalls
-text-calls = record { line = λ numbers part. writes _ _; end = λ numbers part. writes _ _ }
+text-calls =
+    record { line = λ numbers part. writes _ _; end = λ numbers part. writes _ _; page = λ most lines part. writes _ _; answer = λ compared part. writes _ _ }

@@ -31,7 +31,13 @@ use Rattle.charger.specs.Walks.{walkedTold, walkOf, startWalk}
 use Rattle.charger.specs.Pages.{pageTold, pageOf}
 use Rattle.charger.specs.declared.walking.Walk.{Walk}
 use Rattle.charger.specs.declared.paging.Page.{Page}
+use Rattle.shown.specs.declared.line.Line.{Line}
 use Rattle.lines.specs.Text.{lineText, endText}
+use Rattle.printing.specs.Text.{pageText}
+use Rattle.logs.specs.Comparing.{comparedTold, compareOf, inputsOf}
+use Rattle.logs.specs.Rests as logs
+use Rattle.logs.specs.Text.{answerText}
+use Rattle.logs.specs.declared.answer.Compared.{Compared}
 use Rattle.outcome.specs.One.{One, Tells, TellsBytes, itself}
 
 -- the leaves and the log's spelling
@@ -73,7 +79,16 @@ pub record ModelCalls : Type 0 where
   -- a page is an array of 16 lines of which the first `count` are told: an exception, since the lines behind them are room, and nothing is said of them
   pub turn : (log : List ℕ) (from : Walk) (a b : Page) → Turned log from a → Turned log from b → (pageTold a ≡ pageTold b) × (a .count ≡ b .count)
 
--- what runlog prints
+-- two logs; a part that is handed back is seen as the reader's is
+pub record LogsCalls : Type 0 where
+  pub compare : (a b : List ℕ) → One (Tells comparedTold (compareOf kinds a b))
+  pub compare-inputs : (a b : List ℕ) → One (Tells comparedTold (inputsOf kinds a b))
+  pub rest : (a b : RefT (List ℕ)) → One (Tells itself (logs.restOf a b))
+
+-- what runlog and partlog print
 pub record TextCalls : Type 0 where
   pub line : (numbers part : List ℕ) → One (TellsBytes writtenTold (written (lineText numbers) part) (put (lineText numbers) part))
   pub end : (numbers part : List ℕ) → One (TellsBytes writtenTold (written (endText numbers) part) (put (endText numbers) part))
+  pub page : (most : ℕ) (lines : List Line) (part : List ℕ) → One (TellsBytes writtenTold (written (pageText most lines) part) (put (pageText most lines) part))
+  pub answer : (compared : Compared) (part : List ℕ)
+      → One (TellsBytes writtenTold (written (answerText (comparedTold compared)) part) (put (answerText (comparedTold compared)) part))
