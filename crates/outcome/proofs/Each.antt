@@ -11,11 +11,13 @@ use Rattle.number.proofs.Answers.{number-one}
 use Rattle.record.proofs.Answers.{read-one}
 use Rattle.steplaws.proofs.Answers.{step-once}
 use Rattle.logs.proofs.Answers.{compared-one}
+use Rattle.image.proofs.ImageLaws.{loaded-one}
+use Rattle.given.proofs.Answers.{given-one}
 use Rattle.outcome.specs.One.{One, Tells, TellsBytes, itself}
 use Rattle.charger.specs.Pages.{Passed, pageTold}
 use Rattle.charger.specs.declared.walking.Walk.{Walk}
 use Rattle.charger.specs.declared.paging.Page.{Page}
-use Rattle.outcome.specs.Calls.{Turned, CodecCalls, ReaderCalls, ModelCalls, LogsCalls, TextCalls}
+use Rattle.outcome.specs.Calls.{Turned, CodecCalls, ReaderCalls, ModelCalls, LogsCalls, FirmwareCalls, TextCalls}
 use Rattle.outcome.proofs.Settling.{contract-settles, contract-settles-bytes, itself-settles}
 use Rattle.outcome.proofs.Answers.{known-settled, read-settled, write-settled, walk-settled}
 
@@ -86,6 +88,21 @@ logs-calls =
       compare = λ a b. contract-settles _ _ _ compared-one _;
       compare-inputs = λ a b. contract-settles _ _ _ compared-one _;
       rest = λ a b. plain _;
+    }
+
+pub firmware-calls : FirmwareCalls
+firmware-calls =
+    record {
+      load = λ bytes. contract-settles _ _ _ loaded-one _;
+      save = λ bytes m. contract-settles-bytes _ _ _ itself-settles _ _;
+      given = λ kind words. contract-settles _ _ _ given-one _;
+      off = λ image. plain _;
+      play = λ image log place shown. plain _;
+      event = λ image kind words shown. plain _;
+      report = λ image part. plain _;
+      register = λ image address. plain _;
+      write = λ kind words out. plain _;
+      compare = λ one two. plain _;
     }
 
 pub text-calls : TextCalls

@@ -38,6 +38,12 @@ use Rattle.logs.specs.Comparing.{comparedTold, compareOf, inputsOf}
 use Rattle.logs.specs.Rests as logs
 use Rattle.logs.specs.Text.{answerText}
 use Rattle.logs.specs.declared.answer.Compared.{Compared}
+use Rattle.given.specs.Given.{givenTold, givenOf}
+use Rattle.image.specs.Images.{loadedTold, modelIn, isLong, savedIn}
+use Rattle.firmware.specs.Playing.{offOf, playOf, eventCallOf}
+use Rattle.firmware.specs.Showing.{reportCallOf, registerOf}
+use Rattle.firmware.specs.Writing.{writeCallOf}
+use Rattle.firmware.specs.Comparing.{compareCallOf}
 use Rattle.outcome.specs.One.{One, Tells, TellsBytes, itself}
 
 -- the leaves and the log's spelling
@@ -84,6 +90,19 @@ pub record LogsCalls : Type 0 where
   pub compare : (a b : List ℕ) → One (Tells comparedTold (compareOf kinds a b))
   pub compare-inputs : (a b : List ℕ) → One (Tells comparedTold (inputsOf kinds a b))
   pub rest : (a b : RefT (List ℕ)) → One (Tells itself (logs.restOf a b))
+
+-- images, and the firmware's calls: their outcome, the answer and all bytes that they may change, is one record
+pub record FirmwareCalls : Type 0 where
+  pub load : (bytes : List ℕ) → One (Tells loadedTold (modelIn bytes))
+  pub save : (bytes : List ℕ) (m : Model) → One (TellsBytes itself (isLong bytes) (savedIn bytes m))
+  pub given : (kind : ℕ) (words : List ℕ) → One (Tells givenTold (givenOf kind words))
+  pub off : (image : List ℕ) → One (Tells itself (offOf image))
+  pub play : (image log : List ℕ) (place : ℕ) (shown : List ℕ) → One (Tells itself (playOf image log place shown))
+  pub event : (image : List ℕ) (kind : ℕ) (words shown : List ℕ) → One (Tells itself (eventCallOf image kind words shown))
+  pub report : (image part : List ℕ) → One (Tells itself (reportCallOf image part))
+  pub register : (image : List ℕ) (address : ℕ) → One (Tells itself (registerOf image address))
+  pub write : (kind : ℕ) (words out : List ℕ) → One (Tells itself (writeCallOf kind words out))
+  pub compare : (one two : List ℕ) → One (Tells itself (compareCallOf one two))
 
 -- what runlog and partlog print
 pub record TextCalls : Type 0 where
