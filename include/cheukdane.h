@@ -4,8 +4,8 @@
  * lends it to each call. Every call answers on every input and asks nothing of its caller but that each pointer points to as many bytes as the length beside it says (an
  * empty part may be NULL, 0) and that bytes which a call may change are lent to it once.
  *
- * Words are 32-bit numbers, lowest byte first. `number` is 0, or the refusal's number of the paper's table; `place` is the refusal's place: the record's start in a log, 0
- * outside one. A refusal leaves every lent byte as it was.
+ * Words are 32-bit numbers, lowest byte first. A size_t has 64 bits. `number` is 0, or the refusal's number of the paper's table; `place` is the refusal's place: the
+ * record's start in a log, 0 outside one. A refusal leaves every lent byte as it was.
  *
  * In every call that is lent an image, bytes that aren't an image, or are of another length than CHEUKDANE_IMAGE, are 5 before all else; then an answer buffer that is
  * too short is 12; then what the call is about is judged. Of an answer buffer the first words are written and the bytes after them stay.
@@ -20,7 +20,9 @@
 extern "C" {
 #endif
 
-/* Bytes of an image: 54 words. Word 0 is 0 before a power-on (then all other words are 0) or 1. The state's numbers follow, from these words on. */
+/* Bytes of an image: 54 words. Word 0 is 0 before a power-on (then all other words are 0) or 1. The state's numbers follow, from these words on; a yes or no is 1 or 0. Every
+ * model has one image, and bytes are an image just where they are a model's: a yes or no above 1, a byte above 255, or a phase, band or flags that aren't, make them none. A
+ * number outside what the model may hold makes an image all the same: an event on it is 5. */
 #define CHEUKDANE_IMAGE 216
 #define CHEUKDANE_PROFILE 1    /* a power-on's ten numbers, in the log's order */
 #define CHEUKDANE_SETTINGS 11  /* settings 1 to 14 */
@@ -51,19 +53,19 @@ struct cheukdane_answer {
 struct cheukdane_played {
     uint32_t number;
     uint32_t kind;  /* of the record that was read; 0 where none was */
-    uint64_t place; /* where that record, or what can't be read, starts */
+    uint64_t place; /* where that record, or what can't be read, starts; the given place where none was looked for */
     uint64_t next;  /* where the next record starts; `place` where none was read */
 };
 
 struct cheukdane_byte {
     uint32_t number;
-    uint32_t byte;
+    uint32_t byte; /* 0 with a refusal */
     uint64_t place;
 };
 
 struct cheukdane_written {
     uint32_t number;
-    uint32_t count; /* bytes of the record */
+    uint32_t count; /* bytes of the record; 0 with a refusal */
     uint64_t place;
 };
 
@@ -78,7 +80,8 @@ struct cheukdane_compared {
 struct cheukdane_answer cheukdane_off(uint8_t *image, size_t image_length);
 
 /* Plays the record at a place of a log. Accepted: the image is the model after it and `shown` shows it. Refused by the model: 5 to 11, with the kind, and `next` leads on
- * to the next record. Unreadable: 1 to 4 and kind 0. At the log's end or past it: number 0 and kind 0, and no byte is changed. */
+ * to the next record. Unreadable: 1 to 4 and kind 0. At the log's end or past it: number 0 and kind 0, and no byte is changed. With 5 for the image or 12 no record is
+ * looked for: kind 0. */
 struct cheukdane_played cheukdane_play(uint8_t *image, size_t image_length, const uint8_t *log, size_t log_length, size_t place, uint8_t *shown, size_t shown_length);
 
 /* One event outside a log: its kind, and the kind's numbers as words, just as many as it has. An unknown kind is 4; words that aren't as many are 5. */

@@ -20,7 +20,7 @@ pub enum Ready {
 }
 
 // The model of an image, in a call whose answer buffer has `room` bytes and wants so many.
-pub fn begin(image: &[u8], room: usize, wanted: usize) -> Ready
+pub(crate) fn begin(image: &[u8], room: usize, wanted: usize) -> Ready
     ensures { λ r. ⌜ readyTold r ≡ readyOf (now (image .entry)) room wanted ⌝ }
 {
     let loaded = image::load(image);

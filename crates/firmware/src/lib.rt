@@ -1,7 +1,7 @@
 // What a head's C firmware calls: a handful of functions on numbers and byte slices.
 pub mod answer;
 pub mod comparing;
-pub mod landing;
+mod landing;
 pub mod playing;
 pub mod showing;
 pub mod writing;
