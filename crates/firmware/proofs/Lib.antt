@@ -1,4 +1,5 @@
 -- The laws of the crate `firmware`.
+pub mod Leaves
 mod Lands
 mod Plays
 mod Shows

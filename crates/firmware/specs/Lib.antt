@@ -4,3 +4,4 @@ pub mod Playing
 pub mod Showing
 pub mod Writing
 pub mod Comparing
+pub mod Promises
