@@ -63,7 +63,7 @@ use Rattle.demands.specs.Printed.{Printed, printedBy, logFrom, linesBy, 
 use Rattle.demands.specs.Refuted.{WriteBreaks, SecondRefuted}
 use Rattle.demands.specs.Wrong.{writesConstant, refusesAlways, reportsZeros, ignoresEvents, worksOnce, inventsTimes, inventsCounts}
 use Rattle.demands.proofs.Days.{paper, seen, sampled, first, cool, held, differ, no-byte, one-byte}
-use Rattle.history.specs.Reported.{reportAt, fastAt, limitAt}
+use Rattle.history.specs.Reported.{reportAt, fastAt, limitAt, currentAt, voltageAt}
 use Rattle.demands.specs.Slips.{sameWrite, scalesPrecharge, timesAfter, judgesCool, coolFirst}
 
 abbrev kindMet : Met → ℕ
@@ -101,7 +101,7 @@ abbrev start : Past
 start = some (powered paper)
 
 pub second-refuted : SecondRefuted
-unfolding outcomeOf stepOf reportAt refusesAlways reportsZeros ignoresEvents worksOnce inventsTimes inventsCounts sameWrite scalesPrecharge timesAfter judgesCool printedBy refusalOf nextOf firstOf stateOk movedOf phaseAt settingOf fastAt chargeVoltage limitAt shareOf fastCurrent reportOf logFrom linesBy wholeOf stateBy powerOnOf profileOk settingsOk registersOk cycleOk watchdogOk sampleOk setOf writeEventOf takeFlagsOf observeOf serviceOf resetEventOf phasesOf count chargeClamp bandAt baseAt inPack cellsOf profileOf chargeClampOf chargeVoltageOf inputLimitOf finishOf coolFirst settledOf testsOf lineBy pageOf startWalk settingsAt registersAt latchesAt cycleAt watchdogAt sampleOf flagsAt pulsed handedBack refusalIn poweredOf mayHold storeOf writeOf withFlags observedOf resetOf phaseBy pinFault startValue overridden byteOf packClamp baseOf cutOf settleOf edgesOf merged pulseOf timesOf unitsOf bandOf cycleOf phaseOf permittedOf suspendsOf belowRecharge taperOf endingOf flagsNumber walkOf inputOk inputOver short low packOver timeIn isDone unserved flagged edge expired wasTaken elapsed startOf heldOf shownOf rangeOf writtenTo countedOf expiredOf clearedIf startSettings restored permitted fault suspended wasDone rechargeDue chargeEnds tapering startVsysmin resetByte takenOf packClampOf forcedOf latchesOf seenOf expiresOf phaseChanges bandChanges reachesOf regulatedOf clearsOf endsOf judgedOf faultOf reachedOf belowShare recordAt since vbat sumAfter starts gave wasReset wasServed inputGood limitReached settingNumbers fieldsAt ranges recounted placed byteAt startVreg startIchg limitFound wasObserved ending shortOf lowOf packOverOf restartsOf readRecord restarts unitsOfHistory fields timeFound metBy lineOf readItems eventOf signedOf readNumber readGroups
+unfolding outcomeOf stepOf reportAt currentAt voltageAt refusesAlways reportsZeros ignoresEvents worksOnce inventsTimes inventsCounts sameWrite scalesPrecharge timesAfter judgesCool printedBy refusalOf nextOf firstOf stateOk movedOf phaseAt settingOf fastAt chargeVoltage limitAt shareOf fastCurrent reportOf logFrom linesBy wholeOf stateBy powerOnOf profileOk settingsOk registersOk cycleOk watchdogOk sampleOk setOf writeEventOf takeFlagsOf observeOf serviceOf resetEventOf phasesOf count chargeClamp bandAt baseAt inPack cellsOf profileOf chargeClampOf chargeVoltageOf inputLimitOf finishOf coolFirst settledOf testsOf lineBy pageOf startWalk settingsAt registersAt latchesAt cycleAt watchdogAt sampleOf flagsAt pulsed handedBack refusalIn poweredOf mayHold storeOf writeOf withFlags observedOf resetOf phaseBy pinFault startValue overridden byteOf packClamp baseOf cutOf settleOf edgesOf merged pulseOf timesOf unitsOf bandOf cycleOf phaseOf permittedOf suspendsOf belowRecharge taperOf endingOf flagsNumber walkOf inputOk inputOver short low packOver timeIn isDone unserved flagged edge expired wasTaken elapsed startOf heldOf shownOf rangeOf writtenTo countedOf expiredOf clearedIf startSettings restored permitted fault suspended wasDone rechargeDue chargeEnds tapering startVsysmin resetByte takenOf packClampOf forcedOf latchesOf seenOf expiresOf phaseChanges bandChanges reachesOf regulatedOf clearsOf endsOf judgedOf faultOf reachedOf belowShare recordAt since vbat sumAfter starts gave wasReset wasServed inputGood limitReached settingNumbers fieldsAt ranges recounted placed byteAt startVreg startIchg limitFound wasObserved ending shortOf lowOf packOverOf restartsOf readRecord restarts unitsOfHistory fields timeFound metBy lineOf readItems eventOf signedOf readNumber readGroups
 second-refuted = record {
   refuses = λ r report run read write d.
       let z : refusalNumber r ≡ 0 = ap (λ (o : Outcome). o .number) (d .moves none tt (PowerOn paper)) in

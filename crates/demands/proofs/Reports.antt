@@ -1,13 +1,17 @@
 -- The report of the account's state is the account's.
 use Prim.Native.Nat.{ℕ, zero, suc, _*_, _/_, min}
-use mathlib.Core.Path.{_≡_, refl, ap}
+use mathlib.Core.Path.{_≡_, refl, ap, _∙_}
 use mathlib.Core.Bool.{Bool, true, false, not, _&&_}
 use native.Mathlib.Omega.{arith}
-use lib.Dec.{ltb}
+use lib.Dec.{ltb, eqb}
 use borrow.Author.Tests.{lt-ltb, le-ltb}
 use Rattle.base.specs.Pick.{pick}
 use Rattle.base.specs.Units.{inPack, lessOf}
 use Rattle.base.specs.declared.units.CellMv.{CellMv}
+use Rattle.base.specs.declared.units.PackMv.{PackMv}
+use Rattle.parts.specs.Numbers.{phaseNumber}
+use Rattle.parts.specs.declared.phase.Phase.{Phase}
+use Rattle.parts.specs.declared.phase.Phase.the-variants.{Idle, Trickle, Precharge, Fast, Taper, Done, Suspended, Fault}
 use Rattle.parts.specs.declared.band.Band.{Band}
 use Rattle.parts.specs.declared.band.Band.the-variants.{Normal, Cold, Cool, Warm, Hot}
 use Rattle.bands.specs.Effect.{shareOf, cutOf}
@@ -20,7 +24,7 @@ use Rattle.history.specs.Valued.{settingOf, enabled}
 use Rattle.history.specs.Judged.{packClamp, baseAt, chargeClamp, bandAt, shareIn, cutIn, chargeVoltage}
 use Rattle.history.specs.Cycles.{phaseAt}
 use Rattle.history.specs.States.{settingsAt, registersAt, stateBy, stateOf}
-use Rattle.history.specs.Reported.{fastAt, limitAt, reportAt}
+use Rattle.history.specs.Reported.{fastAt, limitAt, charges, currentAt, voltageAt, reportAt}
 
 share-is : (b : Band) (r : Run) → shareOf (registersAt r) b ≡ shareIn b r
 unfolding shareOf registersAt
@@ -55,11 +59,30 @@ input-limit-is : (r : Run) → inputLimitOf (profileOf r) (settingsAt r) ≡ lim
 unfolding inputLimitOf limitAt settingsAt
 input-limit-is r = limit-is (enabled 12 r) (profileOf r .ohms) (settingOf 5 r) (min (settingOf 5 r) (3333000 / profileOf r .ohms))
 
+current-is : (p : Phase) (precharge fast : ℕ)
+    → currentIn p precharge fast ≡ pick (not (charges (phaseNumber p))) 0 (pick (eqb (phaseNumber p) 1) 100 (pick (eqb (phaseNumber p) 2) precharge fast))
+current-is Idle precharge fast = refl
+current-is Trickle precharge fast = refl
+current-is Precharge precharge fast = refl
+current-is Fast precharge fast = refl
+current-is Taper precharge fast = refl
+current-is Done precharge fast = refl
+current-is Suspended precharge fast = refl
+current-is Fault precharge fast = refl
+
+voltage-is : (p : Phase) (charge none : PackMv) → voltageIn p charge none ≡ pick (charges (phaseNumber p)) charge none
+voltage-is Idle charge none = refl
+voltage-is Trickle charge none = refl
+voltage-is Precharge charge none = refl
+voltage-is Fast charge none = refl
+voltage-is Taper charge none = refl
+voltage-is Done charge none = refl
+voltage-is Suspended charge none = refl
+voltage-is Fault charge none = refl
+
 pub reports-are : (r : Run) → reportOf (stateOf r) ≡ reportAt r
-unfolding reportOf reportAt stateBy settingsAt
-reports-are r = λ i. record {
-  phase = phaseAt r;
-  current = currentIn (phaseAt r) (settingOf 3 r) (fast-is r i);
-  voltage = voltageIn (phaseAt r) (charge-is r i) (record { 0 = 0 });
-  limit = input-limit-is r i;
-}
+unfolding reportOf reportAt currentAt voltageAt stateBy settingsAt
+reports-are r =
+    let current = ap (currentIn (phaseAt r) (settingOf 3 r)) (fast-is r) ∙ current-is (phaseAt r) (settingOf 3 r) (fastAt r) in
+    let voltage = ap (λ charge. voltageIn (phaseAt r) charge (record { 0 = 0 })) (charge-is r) ∙ voltage-is (phaseAt r) (chargeVoltage r) (record { 0 = 0 }) in
+    λ i. record { phase = phaseAt r; current = current i; voltage = voltage i; limit = input-limit-is r i }

@@ -10,10 +10,10 @@ use Rattle.history.specs.Held.{profileOf, sampleOf, elapsed, wasObserved, wasRe
 use Rattle.history.specs.Valued.{pinFault, startValue, settingOf}
 use Rattle.history.specs.Judged.{vbat, packClamp, baseAt, chargeClamp, inputOk, inputOver, inputGood, short, low, packOver, bandAt, suspended, chargeVoltage, permitted, tapering, rechargeDue, ending}
 use Rattle.history.specs.Cycles.{unitsOf, gave, isDone, wasDone, restarts, starts, timeIn, timeFound, limitFound, fault, chargeEnds, phaseBy, limitReached, phasesOf, phaseAt}
-use Rattle.history.specs.Reported.{fastAt, limitAt, reportAt}
+use Rattle.history.specs.Reported.{fastAt, limitAt, currentAt, voltageAt, reportAt}
 use Rattle.witness.specs.Days.{day, slow, unattended, mild}
 use Rattle.witness.specs.Rows.{toldOf, RowsTold}
 
 pub rows-told : RowsTold
-unfolding day slow unattended mild toldOf inPack belowShare startVreg startIchg startVsysmin startSettings settingNumbers heldOf fields fieldsAt takenOf resetByte regulatedOf since sumAfter count upTo lastOf total profileOf sampleOf elapsed wasObserved wasReset wasServed unserved expired overridden cellsOf byteOf pinFault startValue settingOf vbat packClamp baseAt chargeClamp inputOk inputOver inputGood short low packOver bandAt suspended chargeVoltage permitted tapering rechargeDue ending unitsOf gave isDone wasDone restarts starts timeIn timeFound limitFound fault chargeEnds phaseBy limitReached phasesOf phaseAt fastAt limitAt reportAt
+unfolding day slow unattended mild toldOf inPack belowShare startVreg startIchg startVsysmin startSettings settingNumbers heldOf fields fieldsAt takenOf resetByte regulatedOf since sumAfter count upTo lastOf total profileOf sampleOf elapsed wasObserved wasReset wasServed unserved expired overridden cellsOf byteOf pinFault startValue settingOf vbat packClamp baseAt chargeClamp inputOk inputOver inputGood short low packOver bandAt suspended chargeVoltage permitted tapering rechargeDue ending unitsOf gave isDone wasDone restarts starts timeIn timeFound limitFound fault chargeEnds phaseBy limitReached phasesOf phaseAt fastAt limitAt currentAt voltageAt reportAt
 rows-told = (refl, (refl, (refl, (refl, (refl, (refl, (refl, (refl, (refl, (refl, (refl, (refl, (refl, (refl, (refl, (refl, (refl, (refl, (refl, (refl, tt))))))))))))))))))))
