@@ -1,7 +1,7 @@
 -- What the functions of `image` ask, over plain values.
-use Prim.Native.Nat.{ℕ, _-_}
-use mathlib.Core.Path.{_≡_, sym, ap, _∙_}
-use mathlib.Core.Bool.{Bool, true, false}
+use Prim.Native.Nat.{ℕ, _-_, _/_, _%_}
+use mathlib.Core.Path.{_≡_, refl, sym, ap, _∙_}
+use mathlib.Core.Bool.{Bool, true, false, _&&_}
 use mathlib.Core.List.{List, [], _∷_}
 use native.Mathlib.Omega.{arith}
 use lib.Dec.{eqb}
@@ -54,9 +54,28 @@ pub not-long : (bytes : List ℕ) → (length bytes ≡ 216 → ⊥) → _≡_ {
 unfolding modelIn
 not-long bytes h = rw (← differ (imageOf (modelFrom bytes)) bytes (λ e. h (sym (ap length e) ∙ image-long (modelFrom bytes))))
 
-pub loads : (bytes again : List ℕ) (m : Model) (t : Bool) → m ≡ modelFrom bytes → again ≡ imageOf m → t ≡ sameBytes again bytes → modelIn bytes ≡ pick t (accepted m) (refused 5)
+pub loads : (bytes : List ℕ) (m : Model) (t : Bool) → m ≡ modelFrom bytes → t ≡ sameBytes (imageOf m) bytes → modelIn bytes ≡ pick t (accepted m) (refused 5)
 unfolding modelIn
-loads bytes again m t em ea et = rw (et, ea, em)
+loads bytes m t em et = rw (et, em)
+
+-- comparing: a first word's bytes, and those after it
+all-four : (a b c d e : Bool) → (a && (b && (c && (d && e)))) ≡ ((a && (b && (c && (d && true)))) && e)
+all-four true true true true e = refl
+all-four true true true false e = refl
+all-four true true false d e = refl
+all-four true false c d e = refl
+all-four false b c d e = refl
+
+pub both-same : (bytes ns : List ℕ) (first : ℕ) → length bytes ≡ 216
+    → (sameBytes (bytesOf (first ∷ [])) (take 4 bytes) && sameBytes (bytesOf ns) (take (length bytes - 4) (drop 4 bytes))) ≡ sameBytes (bytesOf (first ∷ ns)) bytes
+unfolding bytesOf sameBytes
+both-same (a ∷ b ∷ c ∷ d ∷ bytes) ns first l =
+    rw (take-all (length (a ∷ b ∷ c ∷ d ∷ bytes) - 4) bytes (omega arith))
+    (sym (all-four (eqb (first % 256) a) (eqb (first / 256 % 256) b) (eqb (first / 65536 % 256) c) (eqb (first / 16777216 % 256) d) (sameBytes (bytesOf ns) bytes)))
+both-same [] ns first l = absurd (let z : 0 ≡ 216 = l in omega arith)
+both-same (a ∷ []) ns first l = absurd (let z : 1 ≡ 216 = l in omega arith)
+both-same (a ∷ b ∷ []) ns first l = absurd (let z : 2 ≡ 216 = l in omega arith)
+both-same (a ∷ b ∷ c ∷ []) ns first l = absurd (let z : 3 ≡ 216 = l in omega arith)
 
 -- saving
 pub long-saved : (bytes : List ℕ) (m : Model) → length bytes ≡ 216 → (true ≡ eqb (length bytes) 216) × (imageOf m ≡ savedIn bytes m)

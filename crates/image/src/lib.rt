@@ -1,10 +1,12 @@
 // A model's image: its numbers as words, and the model back out of them.
 use listing::Numbers;
 use parts::state::Model;
+use words::same;
 ghost use mathlib.Core.Path.{_≡_};
 ghost use mathlib.Core.List.{_∷_};
 ghost use lib.ListN.{length};
 ghost use Rattle.words.specs.Words.{bytesOf};
+ghost use Rattle.words.specs.Same.{sameBytes};
 ghost use Rattle.image.specs.Images.{imageOf, modelFrom, modelIn, loadedTold, isLong, savedIn};
 
 // The model of an image, or that the bytes aren't one.
@@ -63,6 +65,31 @@ fn model_from(image: &[u8]) -> Model
     Model::On(remade::made(all))
 }
 
+// Whether bytes of an image's length are those of a first word and the numbers after it.
+fn holds(image: &[u8], first: u32, all: Numbers) -> bool
+    requires { ⌜ length (now image) ≡ 216 ⌝ }
+    ensures { λ r. ⌜ r ≡ sameBytes (bytesOf (first ∷ all)) (now (image .entry)) ⌝ }
+{
+    let start = [first; 1];
+    let begins = same::same(&start, &image[..4]);
+    let goes_on = same::same(&all, &image[4..]);
+    begins & goes_on
+}
+
+// Whether bytes of an image's length are a model's image.
+fn is_image(image: &[u8], m: Model) -> bool
+    requires { ⌜ length (now image) ≡ 216 ⌝ }
+    ensures { λ r. ⌜ r ≡ sameBytes (imageOf m) (now (image .entry)) ⌝ }
+{
+    match m {
+        Model::Off => {
+            let none = [0u32; 53];
+            holds(image, 0, none)
+        }
+        Model::On(s) => holds(image, 1, listing::numbers_of(s)),
+    }
+}
+
 // Loads the model of an image.
 pub fn load(image: &[u8]) -> Loaded
     ensures { λ r. ⌜ loadedTold r ≡ modelIn (now (image .entry)) ⌝ }
@@ -71,9 +98,7 @@ pub fn load(image: &[u8]) -> Loaded
         return Loaded::NoImage;
     }
     let model = model_from(image);
-    let mut again = [0u8; 216];
-    put_model(&mut again, model);
-    if words::same::same(&again, image) {
+    if is_image(image, model) {
         Loaded::Held(model)
     } else {
         Loaded::NoImage

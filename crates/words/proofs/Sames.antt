@@ -1,16 +1,18 @@
--- The test for the same bytes: what it says, and what its loop asks.
-use Prim.Native.Nat.{ℕ, _+_, _≤_, _<_}
-use mathlib.Core.Path.{_≡_, refl, ap, _∙_}
+-- The test for the bytes of words: what it says, and what its loop asks.
+use Prim.Native.Nat.{ℕ, suc, _+_, _*_, _/_, _%_, _^_, _≤_, _<_}
+use mathlib.Core.Path.{_≡_, refl, sym, ap, _∙_}
 use mathlib.Core.Bool.{Bool, true, false, _&&_, false≢true}
 use mathlib.Core.List.{List, [], _∷_}
-use native.Mathlib.Numerals.{add-one}
+use native.Mathlib.Omega.{arith}
 use lib.Dec.{eqb}
 use lib.ListN.{length, drop, getD, drop-of-length-le}
 use lib.Seq.{drop-cons}
 use borrow.Author.Tests.{eq-eqb}
 use Rattle.base.proofs.Tests.{eqb-iff, and-iff}
 use Rattle.words.specs.Same.{sameBytes}
+use Rattle.words.specs.Words.{wordBytes, bytesOf, wordAt}
 use Rattle.words.specs.Promises.{SameTold}
+use Rattle.words.proofs.WordLaws.{length-bytes, four-of, word-back}
 
 same-head : (x y : ℕ) (xs ys : List ℕ) (rest : Bool) → (rest ≡ true → xs ≡ ys) → (eqb x y && rest) ≡ true → x ∷ xs ≡ y ∷ ys
 same-head x y xs ys rest ih e =
@@ -45,13 +47,31 @@ differ a b h = go (sameBytes a b) refl
     go false e = refl
 
 -- ---- the loop: what is left to compare comes to the same
-pub left-differs : (a b : List ℕ) (i : ℕ) → (getD a i 0 ≡ getD b i 0 → ⊥) → false ≡ sameBytes a b
-left-differs a b i h = differ a b (λ e. h (ap (λ l. getD l i 0) e))
+-- a word that is read is just its bytes
+digits : (n a b c d : ℕ) → a < 256 → b < 256 → c < 256 → d < 256 → a + b * 256 + c * 65536 + d * 16777216 ≡ n
+    → (n % 256 ≡ a) × (n / 256 % 256 ≡ b) × (n / 65536 % 256 ≡ c) × (n / 16777216 % 256 ≡ d)
+digits n a b c d ha hb hc hd e = (omega arith, omega arith, omega arith, omega arith)
 
-pub left-more : (a b : List ℕ) (i : ℕ) → i < length a → i < length b → getD a i 0 ≡ getD b i 0 → sameBytes (drop i a) (drop i b) ≡ sameBytes (drop (i + 1) a) (drop (i + 1) b)
-unfolding sameBytes
-left-more a b i ha hb e = rw (add-one, drop-cons a i 0 ha, drop-cons b i 0 hb, eq-eqb (getD a i 0) (getD b i 0) e)
+eqb-same : (n : ℕ) → eqb n n ≡ true
+eqb-same n = eq-eqb n n refl
 
-pub left-none : (a b : List ℕ) (i : ℕ) → length a ≤ i → length b ≤ i → true ≡ sameBytes (drop i a) (drop i b)
-unfolding sameBytes
-left-none a b i ha hb = rw (drop-of-length-le a {i = i} ha, drop-of-length-le b {i = i} hb)
+pub left-more : (all bytes : List ℕ) (i : ℕ) → ((k : ℕ) → getD bytes k 0 < 256) → i < length all → i * 4 + 4 ≤ length bytes → wordAt bytes (i * 4) ≡ getD all i 0
+    → sameBytes (bytesOf (drop i all)) (drop (i * 4) bytes) ≡ sameBytes (bytesOf (drop (i + 1) all)) (drop ((i + 1) * 4) bytes)
+unfolding sameBytes bytesOf wordAt
+left-more all bytes i known h l e =
+    let at = i * 4 in
+    let d = digits (getD all i 0) (getD bytes at 0) (getD bytes (at + 1) 0) (getD bytes (at + 2) 0) (getD bytes (at + 3) 0) (known at) (known (at + 1)) (known (at + 2)) (known (at + 3)) e in
+    let four : (i + 1) * 4 ≡ i * 4 + 4 = omega arith in
+    let one : i + 1 ≡ suc i = omega arith in
+    rw (four, one, four-of bytes at l, drop-cons all i 0 h, d .0, d .1, d .2, d .3, eqb-same (getD bytes at 0), eqb-same (getD bytes (at + 1) 0), eqb-same (getD bytes (at + 2) 0), eqb-same (getD bytes (at + 3) 0))
+
+pub left-none : (all bytes : List ℕ) (i : ℕ) → length all ≤ i → length bytes ≤ i * 4 → true ≡ sameBytes (bytesOf (drop i all)) (drop (i * 4) bytes)
+unfolding sameBytes bytesOf
+left-none all bytes i ha hb = rw (drop-of-length-le all {i = i} ha, drop-of-length-le bytes {i = i * 4} hb)
+
+-- bytes of another length, and a word that isn't there
+pub other-length : (all bytes : List ℕ) → (length bytes ≡ length all * 4 → ⊥) → false ≡ sameBytes (bytesOf all) bytes
+other-length all bytes h = differ (bytesOf all) bytes (λ e. h (sym (ap length e) ∙ length-bytes all))
+
+pub left-differs : (all bytes : List ℕ) (i : ℕ) → i < length all → getD all i 0 < 2 ^ 32 → (wordAt bytes (i * 4) ≡ getD all i 0 → ⊥) → false ≡ sameBytes (bytesOf all) bytes
+left-differs all bytes i h small other = differ (bytesOf all) bytes (λ e. other (ap (λ l. wordAt l (i * 4)) (sym e) ∙ word-back all i h small))

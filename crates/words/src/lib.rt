@@ -4,7 +4,7 @@ pub mod same;
 use base::refusal::Refusal;
 use base::written::Written;
 ghost use mathlib.Core.Path.{_≡_};
-ghost use Prim.Native.Nat.{_+_, _^_, _≤_};
+ghost use Prim.Native.Nat.{_+_, _*_, _^_, _≤_, _<_};
 ghost use lib.ListN.{length, getD};
 ghost use Rattle.base.specs.Writing.{put, written, writtenTold};
 ghost use Rattle.words.specs.Words.{wordBytes, bytesOf, wordAt, wordsIn};
@@ -23,16 +23,32 @@ fn byte(bytes: &[u8], at: usize) -> u32
     }
 }
 
-// The word at a place.
+// A number of its four bytes.
+fn joined(first: u32, second: u32, third: u32, last: u32) -> u32
+    requires { ⌜ (first ≤ 255) × (second ≤ 255) × (third ≤ 255) × (last ≤ 255) ⌝ }
+    ensures { λ r. ⌜ r ≡ first + second * 256 + third * 65536 + last * 16777216 ⌝ }
+{
+    first + second * 256 + third * 65536 + last * 16777216
+}
+
+// The word at a place: where it ends within the bytes, none of its bytes is asked for by itself.
 fn word(bytes: &[u8], at: usize) -> u32
-    requires { ⌜ at + 4 ≤ 2 ^ 64 ⌝ }
+    requires { ⌜ at + 4 < 2 ^ 64 ⌝ }
     ensures { λ r. ⌜ r ≡ wordAt (now (bytes .entry)) at ⌝ }
 {
+    if at + 4 <= bytes.len() {
+        return joined(
+            bytes[at] as u32,
+            bytes[at + 1] as u32,
+            bytes[at + 2] as u32,
+            bytes[at + 3] as u32,
+        );
+    }
     let first = byte(bytes, at);
     let second = byte(bytes, at + 1);
     let third = byte(bytes, at + 2);
     let last = byte(bytes, at + 3);
-    first + second * 256 + third * 65536 + last * 16777216
+    joined(first, second, third, last)
 }
 
 // Reads as many words as `all` has room for, from the bytes' start on.

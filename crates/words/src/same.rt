@@ -1,16 +1,18 @@
-// Whether two parts have the same bytes.
+// Whether a part has just the bytes of words.
 ghost use mathlib.Core.Path.{_≡_};
+ghost use Rattle.words.specs.Words.{bytesOf};
 ghost use Rattle.words.specs.Same.{sameBytes};
+use crate::word;
 
-pub fn same(a: &[u8], b: &[u8]) -> bool
-    ensures { λ r. ⌜ r ≡ sameBytes (now (a .entry)) (now (b .entry)) ⌝ }
+pub fn same(all: &[u32], bytes: &[u8]) -> bool
+    ensures { λ r. ⌜ r ≡ sameBytes (bytesOf (now (all .entry))) (now (bytes .entry)) ⌝ }
 {
-    if a.len() != b.len() {
+    if bytes.len() != all.len() * 4 {
         return false;
     }
     let mut i: usize = 0;
-    while i < a.len() {
-        if a[i] != b[i] {
+    while i < all.len() {
+        if word(bytes, i * 4) != all[i] {
             return false;
         }
         i += 1;
