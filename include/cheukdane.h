@@ -57,6 +57,13 @@ struct cheukdane_played {
     uint64_t next;  /* where the next record starts; `place` where none was read */
 };
 
+struct cheukdane_replayed {
+    uint32_t number;
+    uint32_t code;    /* 0 at the log's end; else 1 to 4, of what can't be read */
+    uint64_t records; /* how many were read; the count has 32 bits and wraps */
+    uint64_t place;   /* the log's end, or where what can't be read starts */
+};
+
 struct cheukdane_byte {
     uint32_t number;
     uint32_t byte; /* 0 with a refusal */
@@ -83,6 +90,10 @@ struct cheukdane_answer cheukdane_off(uint8_t *image, size_t image_length);
  * to the next record. Unreadable: 1 to 4 and kind 0. At the log's end or past it: number 0 and kind 0, and no byte is changed. With 5 for the image or 12 no record is
  * looked for: kind 0. */
 struct cheukdane_played cheukdane_play(uint8_t *image, size_t image_length, const uint8_t *log, size_t log_length, size_t place, uint8_t *shown, size_t shown_length);
+
+/* Plays every record of a log from a place on, to the log's end or to one that can't be read: what a head does when it starts, or catches up. The image is the model after
+ * them; records that the model refuses are passed over. From the log's end or past it no record is read, and `place` is as given, as it is with a refusal. */
+struct cheukdane_replayed cheukdane_replay(uint8_t *image, size_t image_length, const uint8_t *log, size_t log_length, size_t place);
 
 /* One event outside a log: its kind, and the kind's numbers as words, just as many as it has. An unknown kind is 4; words that aren't as many are 5. */
 struct cheukdane_answer cheukdane_event(uint8_t *image, size_t image_length, uint32_t kind, const uint8_t *words, size_t words_length, uint8_t *shown, size_t shown_length);

@@ -43,6 +43,22 @@ static void the_example(void) {
     shown(before, "the paper's example log gives the paper's lines");
 }
 
+/* The same log in one call. */
+static void the_example_replayed(void) {
+    int before = failures;
+    struct head one, other;
+    start(&one);
+    start(&other);
+    play(&one, EXAMPLE, sizeof EXAMPLE, 0);
+    struct cheukdane_replayed replayed = cheukdane_replay(other.image, sizeof other.image, EXAMPLE, sizeof EXAMPLE, 0);
+    holds(replayed.number == 0 && replayed.records == 2 && replayed.code == 0 && replayed.place == sizeof EXAMPLE, "the numbers of the example's last line");
+    holds(same(one.image, other.image, sizeof one.image), "replayed, it leaves the same image");
+    replayed = cheukdane_replay(other.image, sizeof other.image - 1, EXAMPLE, sizeof EXAMPLE, 16);
+    holds(replayed.number == 5 && replayed.records == 0 && replayed.place == 16, "bytes that aren't an image are 5");
+    holds(same(one.image, other.image, sizeof one.image), "and stay");
+    shown(before, "the example log replayed in one call");
+}
+
 /* What the example leaves: report, STAT, registers and the image's words. */
 static void what_is_read(void) {
     int before = failures;
@@ -73,5 +89,6 @@ static void what_is_read(void) {
 
 void show_the_example(void) {
     the_example();
+    the_example_replayed();
     what_is_read();
 }

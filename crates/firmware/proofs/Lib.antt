@@ -2,5 +2,6 @@
 pub mod Leaves
 mod Lands
 mod Plays
+mod Replays
 mod Shows
 mod Writes

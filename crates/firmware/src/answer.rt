@@ -17,6 +17,17 @@ pub struct Played {
 }
 
 #[repr(C)]
+pub struct Replayed {
+    pub number: u32,
+    // 0 at the log's end; else 1 to 4, of what can't be read
+    pub code: u32,
+    // how many were read
+    pub records: usize,
+    // the log's end, or where what can't be read starts
+    pub place: usize,
+}
+
+#[repr(C)]
 pub struct Byte {
     pub number: u32,
     pub byte: u32,

@@ -3,5 +3,6 @@ pub mod answer;
 pub mod comparing;
 mod landing;
 pub mod playing;
+pub mod replaying;
 pub mod showing;
 pub mod writing;

@@ -1,5 +1,8 @@
-//! Events a second, and instructions an event: the library's `play` over an
-//! image, and the reference.
+//! Events a second, and instructions an event: the library's `replay` and the
+//! reference with its model in memory, which do the same work, a log played on
+//! a model; and the library's `play`, which besides loads, tests and saves an
+//! image and shows what it did for each record, beside the reference that does
+//! so.
 
 use crate::counted::instructions;
 use crate::sampled::{by_turns, ratio, Sampled};
@@ -19,12 +22,21 @@ const RECORDS: usize = 2_000;
 /// Plays a log and gives how many records it has.
 type Player = fn(&[u8]) -> usize;
 
-/// The three that are measured, and what their lines say.
-const CONTENDERS: [(&str, Player); 3] = [
-    ("library, play over an image", |log| over_an_image(log, calls::play)),
+/// What is measured, and what its line says.
+const CONTENDERS: [(&str, Player); 4] = [
+    ("library, replay", replayed),
     ("reference, model in memory", in_memory),
+    ("library, play over an image", |log| over_an_image(log, calls::play)),
     ("reference, over an image", |log| over_an_image(log, expected::play)),
 ];
+
+/// A whole log in one call.
+fn replayed(log: &[u8]) -> usize {
+    let mut image = [0; IMAGE];
+    let replayed = calls::replay(&mut image, log, 0);
+    black_box(&image);
+    replayed.records as usize
+}
 
 /// Over an image, with one of the implementations of `play`.
 fn over_an_image(log: &[u8], play: fn(&mut [u8], &[u8], usize, &mut [u8]) -> Played) -> usize {
@@ -86,18 +98,19 @@ pub fn show() {
     let logs = &logs();
     let sampled = by_turns(CONTENDERS.map(|(_, play)| move || play_all(logs, play)));
     let making = counted("none");
-    let each = ["0", "1", "2"].map(|number| (counted(number) - making) / (LOGS * RECORDS as u64));
+    let each =
+        ["0", "1", "2", "3"].map(|number| (counted(number) - making) / (LOGS * RECORDS as u64));
     println!(
         "{LOGS} logs of {RECORDS} records          best events/s      median   instructions/event"
     );
     for ((name, _), (sampled, each)) in CONTENDERS.iter().zip(sampled.iter().zip(each)) {
         line(name, sampled, each);
     }
-    for (other, name) in [(1, "in memory"), (2, "over an image")] {
+    for (one, other, name) in [(0, 1, "replay"), (2, 3, "play over an image")] {
         println!(
-            "library to the reference {name}: {:.2} by best time, {:.2} by instructions",
-            ratio(sampled[0].best, sampled[other].best),
-            each[0] as f64 / each[other] as f64
+            "library to the reference, {name}: {:.2} by best time, {:.2} by instructions",
+            ratio(sampled[one].best, sampled[other].best),
+            each[one] as f64 / each[other] as f64
         );
     }
 }

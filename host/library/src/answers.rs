@@ -24,6 +24,20 @@ pub struct Played {
     pub next: u64,
 }
 
+/// `struct cheukdane_replayed`.
+#[repr(C)]
+#[derive(Clone, Copy, Debug, PartialEq, Eq)]
+pub struct Replayed {
+    /// 0, or the refusal's number.
+    pub number: u32,
+    /// 0 at the log's end; else that of what can't be read.
+    pub code: u32,
+    /// How many records were read.
+    pub records: u64,
+    /// The log's end, or where what can't be read starts.
+    pub place: u64,
+}
+
 /// `struct cheukdane_byte`.
 #[repr(C)]
 #[derive(Clone, Copy, Debug, PartialEq, Eq)]

@@ -2,7 +2,7 @@
 //! and lent bytes must agree, and the library may touch no byte beside those
 //! that it was lent, and none that it was lent to be read.
 
-use crate::answers::{Answer, Byte, Compared, Played, Written};
+use crate::answers::{Answer, Byte, Compared, Played, Replayed, Written};
 use crate::{calls, expected};
 use std::fmt::Debug;
 
@@ -92,6 +92,17 @@ pub fn play(image: &mut [u8], log: &[u8], place: usize, shown: &mut [u8]) -> Pla
         |image, shown| only_read(log, |log| calls::play(image, log, place, shown)),
         |image, shown| expected::play(image, log, place, shown),
         || format!("play {place} of {log:02X?} on {before:02X?}"),
+    )
+}
+
+/// `cheukdane_replay`.
+pub fn replay(image: &mut [u8], log: &[u8], place: usize) -> Replayed {
+    let before = image.to_vec();
+    agreed(
+        image,
+        |image| only_read(log, |log| calls::replay(image, log, place)),
+        |image| expected::replay(image, log, place),
+        || format!("replay from {place} of {log:02X?} on {before:02X?}"),
     )
 }
 

@@ -1,7 +1,7 @@
 //! The library's calls, each slice as a pointer and a length. An empty slice
 //! goes as NULL and 0, which the header allows.
 
-use crate::answers::{Answer, Byte, Compared, Played, Written};
+use crate::answers::{Answer, Byte, Compared, Played, Replayed, Written};
 use std::ptr;
 
 extern "C" {
@@ -15,6 +15,13 @@ extern "C" {
         shown: *mut u8,
         shown_length: usize,
     ) -> Played;
+    fn cheukdane_replay(
+        image: *mut u8,
+        image_length: usize,
+        log: *const u8,
+        log_length: usize,
+        place: usize,
+    ) -> Replayed;
     fn cheukdane_event(
         image: *mut u8,
         image_length: usize,
@@ -75,6 +82,13 @@ pub fn play(image: &mut [u8], log: &[u8], place: usize, shown: &mut [u8]) -> Pla
     unsafe {
         cheukdane_play(start_mut(image), lent, start(log), log.len(), place, start_mut(shown), room)
     }
+}
+
+/// Plays every record of a log from a place on.
+pub fn replay(image: &mut [u8], log: &[u8], place: usize) -> Replayed {
+    let lent = image.len();
+    // SAFETY: as for `off`, of each slice.
+    unsafe { cheukdane_replay(start_mut(image), lent, start(log), log.len(), place) }
 }
 
 /// Gives one event outside a log.

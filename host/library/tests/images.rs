@@ -22,6 +22,10 @@ fn lend(bytes: &[u8], event: &Event) -> [u32; 4] {
         both::register(bytes, 0x1B).number,
     ];
     assert_eq!(played, given, "an event is the same in a log and outside one");
+    let mut replayed = bytes.to_vec();
+    let answer = both::replay(&mut replayed, &encode(event), 0);
+    assert_eq!(answer.number == 5, image::read(bytes).is_none(), "5 just for what is no image");
+    assert_eq!(replayed, played, "and in a log that is replayed");
     for address in [0x15, 0x16, 0x17, 0x18, 0x19, 0x1A, 0x1C] {
         both::register(bytes, address);
     }

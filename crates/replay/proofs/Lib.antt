@@ -1,0 +1,3 @@
+-- The laws of the crate `replay`.
+pub mod Moves
+pub mod Rests
