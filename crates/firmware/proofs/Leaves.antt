@@ -1,6 +1,6 @@
 -- "A refusal leaves every lent byte as it was."
 use Prim.Native.Nat.{ℕ}
-use mathlib.Core.Path.{_≡_, refl}
+use mathlib.Core.Path.{_≡_, refl, ap}
 use mathlib.Core.Bool.{Bool, true, false}
 use mathlib.Core.List.{List, _++_}
 use mathlib.Core.Logic.{_≢_}
@@ -19,8 +19,11 @@ use Rattle.record.specs.Records as log
 use Rattle.moves.specs.Plain.{Outcome}
 use Rattle.charger.specs.Steps.{stepOf}
 use Rattle.given.specs.Given.{givenOf}
-use Rattle.firmware.specs.Landing.{Both, readyOf, landOf}
-use Rattle.firmware.specs.Playing.{playReady, playOf, eventReady, eventCallOf}
+use Rattle.image.specs.Images.{modelIn, isLong}
+use Rattle.firmware.specs.Landing.{Left, Both, readyOf, landOf}
+use Rattle.firmware.specs.Playing.{offOf, playReady, playOf, eventReady, eventCallOf}
+use Rattle.firmware.specs.Replaying.{replayIn, replayOf}
+use Rattle.firmware.specs.declared.answer.Answer.{Answer}
 use Rattle.firmware.specs.Showing.{reportReady, reportCallOf}
 use Rattle.firmware.specs.Writing.{putTold, writeGiven, writeCallOf}
 use Rattle.firmware.specs.Promises.{Untouched, RefusalLeaves}
@@ -71,6 +74,22 @@ event-leaves image kind words shown h =
     let l = event-ready (readyOf image (length shown) 28) (givenOf kind words) image shown h in
     record { image = l .image; shown = l .shown }
 
+off-picked : (t : Bool) (made kept : Left Answer) → made .answer .number ≡ 0 → pick t made kept .answer .number ≢ 0 → pick t made kept ≡ kept
+off-picked true made kept e h = absurd (h e)
+off-picked false made kept e h = refl
+
+off-leaves : (image : List ℕ) → offOf image .answer .number ≢ 0 → offOf image .bytes ≡ image
+unfolding offOf
+off-leaves image h = ap (λ (l : Left Answer). l .bytes) (off-picked (isLong image) _ _ refl h)
+
+replay-ready : (x : Told Model) (image bytes : List ℕ) (place : ℕ) → replayIn x image bytes place .answer .number ≢ 0 → replayIn x image bytes place .bytes ≡ image
+replay-ready (refused n) image bytes place h = refl
+replay-ready (accepted m) image bytes place h = absurd (h refl)
+
+replay-leaves : (image bytes : List ℕ) (place : ℕ) → replayOf image bytes place .answer .number ≢ 0 → replayOf image bytes place .bytes ≡ image
+unfolding replayOf
+replay-leaves image bytes place h = replay-ready (modelIn image) image bytes place h
+
 report-leaves : (image report : List ℕ) → reportCallOf image report .answer .number ≢ 0 → reportCallOf image report .bytes ≡ report
 unfolding reportCallOf
 report-leaves image report h = report-ready (readyOf image (length report) 24) report h
@@ -80,4 +99,5 @@ unfolding writeCallOf
 write-leaves kind words out h = write-given (givenOf kind words) out h
 
 pub refusal-leaves : RefusalLeaves
-refusal-leaves = record { play = play-leaves; event = event-leaves; report = report-leaves; write = write-leaves }
+refusal-leaves =
+    record { play = play-leaves; event = event-leaves; off = off-leaves; replay = replay-leaves; report = report-leaves; write = write-leaves }

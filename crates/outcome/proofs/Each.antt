@@ -79,6 +79,7 @@ model-calls =
       step = λ m e. contract-settles _ _ _ step-once _;
       walk = λ log w. contract-settles _ _ _ walk-settled _;
       start = plain _;
+      replay = λ log from. plain _;
       turn = λ log from a b. turned log from a b;
     }
 
@@ -98,6 +99,7 @@ firmware-calls =
       given = λ kind words. contract-settles _ _ _ given-one _;
       off = λ image. plain _;
       play = λ image log place shown. plain _;
+      replay = λ image log place. plain _;
       event = λ image kind words shown. plain _;
       report = λ image part. plain _;
       register = λ image address. plain _;

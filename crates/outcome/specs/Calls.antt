@@ -41,6 +41,8 @@ use Rattle.logs.specs.declared.answer.Compared.{Compared}
 use Rattle.given.specs.Given.{givenTold, givenOf}
 use Rattle.image.specs.Images.{loadedTold, modelIn, isLong, savedIn}
 use Rattle.firmware.specs.Playing.{offOf, playOf, eventCallOf}
+use Rattle.firmware.specs.Replaying.{replayOf}
+use Rattle.replay.specs.Rests.{endedOf}
 use Rattle.firmware.specs.Showing.{reportCallOf, registerOf}
 use Rattle.firmware.specs.Writing.{writeCallOf}
 use Rattle.firmware.specs.Comparing.{compareCallOf}
@@ -82,6 +84,7 @@ pub record ModelCalls : Type 0 where
   pub step : (m : Model) (e : Event) → One (Tells steppedTold (stepOf m e))
   pub walk : (log : List ℕ) (w : Walk) → One (Tells walkedTold (walkOf log w))
   pub start : One (Tells itself startWalk)
+  pub replay : (log : List ℕ) (from : Walk) → One (Tells itself (endedOf log from))
   -- a page is an array of 16 lines of which the first `count` are told: an exception, since the lines behind them are room, and nothing is said of them
   pub turn : (log : List ℕ) (from : Walk) (a b : Page) → Turned log from a → Turned log from b → (pageTold a ≡ pageTold b) × (a .count ≡ b .count)
 
@@ -98,6 +101,7 @@ pub record FirmwareCalls : Type 0 where
   pub given : (kind : ℕ) (words : List ℕ) → One (Tells givenTold (givenOf kind words))
   pub off : (image : List ℕ) → One (Tells itself (offOf image))
   pub play : (image log : List ℕ) (place : ℕ) (shown : List ℕ) → One (Tells itself (playOf image log place shown))
+  pub replay : (image log : List ℕ) (place : ℕ) → One (Tells itself (replayOf image log place))
   pub event : (image : List ℕ) (kind : ℕ) (words shown : List ℕ) → One (Tells itself (eventCallOf image kind words shown))
   pub report : (image part : List ℕ) → One (Tells itself (reportCallOf image part))
   pub register : (image : List ℕ) (address : ℕ) → One (Tells itself (registerOf image address))
