@@ -1,0 +1,2 @@
+-- The definitions of the crate `kept`.
+pub mod Promises
