@@ -1,5 +1,5 @@
 -- Every call that moves the model of an image leaves an image of the model after it.
-use Prim.Native.Nat.{ℕ}
+use Prim.Native.Nat.{ℕ, suc}
 use mathlib.Core.Path.{_≡_, refl, sym, ap, _∙_}
 use mathlib.Core.Bool.{Bool, true, false}
 use mathlib.Core.List.{List}
@@ -17,17 +17,22 @@ use Rattle.record.specs.Records.{Met, met, end, recordAt}
 use Rattle.record.specs.Records as log
 use Rattle.record.specs.Promises.{Spellable}
 use Rattle.charger.specs.Steps.{stepOf}
+use Rattle.charger.specs.Pages.{StopTold, full, unreadable, pageOf}
+use Rattle.charger.specs.Pages as page
+use Rattle.charger.specs.declared.walking.Walk.{Walk}
+use Rattle.replay.specs.Rests.{restOf, endedBy, endedOf}
 use Rattle.charger.proofs.Keeps.{refused-leaves}
 use Rattle.image.specs.Images.{modelIn, isLong}
 use Rattle.image.proofs.ImageLaws.{loads-back}
 use Rattle.given.specs.Given.{givenOf}
 use Rattle.firmware.specs.Landing.{Both, readyOf, landOf}
 use Rattle.firmware.specs.Playing.{offOf, playReady, playOf, eventReady, eventCallOf}
+use Rattle.firmware.specs.Replaying.{walkFrom, replayOf}
 use Rattle.kept.specs.Promises.{afterRead, afterGiven, whereRoom, KeepsImage}
 use Rattle.kept.proofs.Giving.{given-fits}
 use Rattle.kept.proofs.Loading.{loaded-storable}
 use Rattle.kept.proofs.Stepping.{step-storable}
-use Rattle.kept.proofs.Walking.{read-fits}
+use Rattle.kept.proofs.Walking.{read-fits, page-storable}
 
 off-kept : (image : List ℕ) → isLong image ≡ true → modelIn (offOf image .bytes) ≡ accepted Off
 unfolding offOf
@@ -72,9 +77,25 @@ module _ (image : List ℕ) (m : Model) (loads : modelIn image ≡ accepted m) (
   unfolding eventCallOf
   event-kept kind words h = rw ready-is (gives (ltb (length shown) 28) (givenOf kind words) (given-fits kind words h))
 
+-- whatever ends a log, the walk's model stands
+ended-model : (w : Walk) (s : StopTold) → endedBy w s .walk .model ≡ w .model
+ended-model w full = refl
+ended-model w page.end = refl
+ended-model w (unreadable number place) = refl
+
+replay-kept : (image : List ℕ) (m : Model) → modelIn image ≡ accepted m → (bytes : List ℕ) → Bytes bytes → (place : ℕ)
+    → modelIn (replayOf image bytes place .bytes) ≡ accepted (restOf bytes (walkFrom m place) .last .model)
+unfolding replayOf endedOf restOf
+replay-kept image m loads bytes h place =
+    let w = walkFrom m place in
+    let p = pageOf (suc (length bytes)) bytes w in
+    let stored = page-storable (suc (length bytes)) bytes h w (loaded-storable image m loads) in
+    rw (loads, ended-model (p .last) (p .stop)) (loads-back (p .last .model) stored)
+
 pub keeps-image : KeepsImage
 keeps-image = record {
   off = off-kept;
   play = λ image m e bytes h place shown. play-kept image m e shown bytes h place;
   event = λ image m e kind words h shown. event-kept image m e shown kind words h;
+  replay = replay-kept;
 }

@@ -23,7 +23,9 @@ use Rattle.charger.specs.declared.walking.Walk.{Walk}
 use Rattle.image.specs.Images.{modelIn, isLong}
 use Rattle.image.specs.Promises.{Storable}
 use Rattle.given.specs.Given.{givenOf}
+use Rattle.replay.specs.Rests.{restOf}
 use Rattle.firmware.specs.Playing.{offOf, playOf, eventCallOf}
+use Rattle.firmware.specs.Replaying.{walkFrom, replayOf}
 
 -- both held stamps have 32 bits: "a counter that runs free and wraps at 2^32"
 abbrev pub Stamped : State → Type 0
@@ -66,3 +68,5 @@ pub record KeepsImage : Type 0 where
       → modelIn (playOf image bytes place shown .image) ≡ accepted (whereRoom shown m (afterRead m (recordAt kinds bytes place)))
   pub event : (image : List ℕ) (m : Model) → modelIn image ≡ accepted m → (kind : ℕ) (words : List ℕ) → Bytes words → (shown : List ℕ)
       → modelIn (eventCallOf image kind words shown .image) ≡ accepted (whereRoom shown m (afterGiven m (givenOf kind words)))
+  pub replay : (image : List ℕ) (m : Model) → modelIn image ≡ accepted m → (bytes : List ℕ) → Bytes bytes → (place : ℕ)
+      → modelIn (replayOf image bytes place .bytes) ≡ accepted (restOf bytes (walkFrom m place) .last .model)
