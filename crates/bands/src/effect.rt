@@ -1,16 +1,12 @@
 // What a band does: it suspends, leaves a share of the current, or cuts the voltage.
 ghost use mathlib.Core.Path.{_≡_};
 ghost use Rattle.bands.specs.Effect.{suspendedIn, suspendsOf, shareIn, shareOf, isWarm, cutOf};
+use base::choice;
+use base::entry;
 use base::units;
 use base::units::CellMv;
 use parts::band::Band;
 use parts::registers::Registers;
-
-const COOL_SHARE: [u32; 4] = [0, 20, 40, 100];
-
-const WARM_SHARE: [u32; 2] = [40, 100];
-
-const CUT: [u32; 4] = [0, 250, 100, 0];
 
 fn suspended_in(band: Band, stopscool: bool, stopswarm: bool) -> bool
     ensures { λ r. ⌜ r ≡ suspendedIn band stopscool stopswarm ⌝ }
@@ -51,9 +47,9 @@ fn share_in(band: Band, cool: u32, warm: u32) -> u32
 pub fn share(registers: Registers, band: Band) -> u32
     ensures { λ r. ⌜ r ≡ shareOf registers band ⌝ }
 {
-    let i = (registers.r19 / 4 % 4) as usize;
-    let j = (registers.r19 / 16 % 2) as usize;
-    share_in(band, COOL_SHARE[i], WARM_SHARE[j])
+    let cool = entry::of_four((registers.r19 / 4) as u32, 0, 20, 40, 100);
+    let warm = choice::number(registers.r19 / 16 % 2 == 1, 100, 40);
+    share_in(band, cool, warm)
 }
 
 fn is_warm(band: Band) -> bool
@@ -72,7 +68,7 @@ fn is_warm(band: Band) -> bool
 pub fn cut(registers: Registers, band: Band) -> CellMv
     ensures { λ r. ⌜ r ≡ cutOf registers band ⌝ }
 {
-    let i = (registers.r19 / 32 % 4) as usize;
+    let off = entry::of_four((registers.r19 / 32) as u32, 0, 250, 100, 0);
     let warm = is_warm(band);
-    units::choose_cell(warm, CellMv(CUT[i]), CellMv(0))
+    units::choose_cell(warm, CellMv(off), CellMv(0))
 }

@@ -1,43 +1,32 @@
 // The temperature band of a thermistor's value, by registers 0x18 and 0x19.
 ghost use mathlib.Core.Path.{_≡_};
 ghost use Rattle.bands.specs.Thresholds.{th1Of, th2Of, th3Of, th5Of, firstBand, bandOf};
+use base::entry;
 use parts::band::Band;
 use parts::registers::Registers;
-
-const TH1: [u32; 4] = [77150, 75320, 73300, 70900];
-
-const TH2: [u32; 4] = [70900, 68250, 65350, 62250];
-
-const TH3: [u32; 4] = [48400, 44750, 41200, 37700];
-
-const TH5: [u32; 4] = [41200, 37700, 34375, 31250];
 
 fn th1(registers: Registers) -> u32
     ensures { λ r. ⌜ r ≡ th1Of registers ⌝ }
 {
-    let i = (registers.r18 % 4) as usize;
-    TH1[i]
+    entry::of_four(registers.r18 as u32, 77150, 75320, 73300, 70900)
 }
 
 fn th2(registers: Registers) -> u32
     ensures { λ r. ⌜ r ≡ th2Of registers ⌝ }
 {
-    let i = (registers.r18 / 4 % 4) as usize;
-    TH2[i]
+    entry::of_four((registers.r18 / 4) as u32, 70900, 68250, 65350, 62250)
 }
 
 fn th3(registers: Registers) -> u32
     ensures { λ r. ⌜ r ≡ th3Of registers ⌝ }
 {
-    let i = (registers.r18 / 16 % 4) as usize;
-    TH3[i]
+    entry::of_four((registers.r18 / 16) as u32, 48400, 44750, 41200, 37700)
 }
 
 fn th5(registers: Registers) -> u32
     ensures { λ r. ⌜ r ≡ th5Of registers ⌝ }
 {
-    let i = (registers.r18 / 64 % 4) as usize;
-    TH5[i]
+    entry::of_four((registers.r18 / 64) as u32, 41200, 37700, 34375, 31250)
 }
 
 // The judged order of bands.

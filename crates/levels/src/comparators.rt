@@ -2,6 +2,7 @@
 ghost use mathlib.Core.Path.{_≡_};
 ghost use Rattle.levels.specs.Comparators.{held, goodOf, packOf, inputOkOf, inputOverOf, shortReturns, shortEnds, shortOf, lowReturns, lowEnds, lowOf, packOverOf, latchesOf};
 use crate::clamps;
+use base::entry;
 use base::units;
 use base::units::CellMv;
 use base::units::PackMv;
@@ -10,8 +11,6 @@ use parts::profile::Profile;
 use parts::registers::Registers;
 use parts::sample::Sample;
 use parts::settings::Settings;
-
-const LOW_ENDS: [u32; 4] = [300, 550, 667, 714];
 
 // On where it begins, or where it was on and nothing ends it.
 fn hold(begins: bool, stays: bool, was: bool) -> bool
@@ -68,8 +67,7 @@ fn short(registers: Registers, sample: Sample, was: bool) -> bool
 fn low_ends(settings: Settings) -> u32
     ensures { λ r. ⌜ r ≡ lowEnds settings ⌝ }
 {
-    let i = (settings.lowv % 4) as usize;
-    LOW_ENDS[i]
+    entry::of_four(settings.lowv, 300, 550, 667, 714)
 }
 
 fn low_returns(settings: Settings) -> u32

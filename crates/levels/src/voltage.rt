@@ -4,6 +4,7 @@ ghost use Rattle.levels.specs.Voltage.{chargeVoltageOf, taperOf, belowRe
 use crate::clamps;
 use crate::comparators;
 use bands::effect;
+use base::entry;
 use base::units;
 use base::units::PackMv;
 use parts::band::Band;
@@ -11,8 +12,6 @@ use parts::profile::Profile;
 use parts::registers::Registers;
 use parts::sample::Sample;
 use parts::settings::Settings;
-
-const RECHARGE: [u32; 4] = [927, 941, 955, 970];
 
 // The voltage that the pack is charged to in a band.
 pub fn charge_voltage(
@@ -42,7 +41,7 @@ pub fn tapers(charge: PackMv, sample: Sample) -> bool
 pub fn below_recharge(settings: Settings, whole: PackMv, sample: Sample) -> bool
     ensures { λ r. ⌜ r ≡ belowRecharge settings whole sample ⌝ }
 {
-    let i = (settings.vrechg % 4) as usize;
+    let share = entry::of_four(settings.vrechg, 927, 941, 955, 970);
     let now = comparators::pack(sample);
-    units::is_below_share(now, whole, RECHARGE[i])
+    units::is_below_share(now, whole, share)
 }

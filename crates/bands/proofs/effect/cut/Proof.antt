@@ -6,8 +6,7 @@ use Rattle.bands.proofs.effect.cut.Tie as tie
 
 returns : tie.Need-returns
 unfolding cutOf
-returns c = simp (c .choose-cell .ensures, c .before .is-warm .ensures)
+returns c = simp (c .choose-cell .ensures, c .before .is-warm .ensures, c .before .before .of-four .ensures)
 
 pub cut-spec : {M : Type 1} → statement M
-cut-spec =
-    tie.close (tie.spec (λ c. search needs) (λ c κs. tt) (λ c. search needs) (λ c. search needs) (λ c κs. tt) returns)
+cut-spec = tie.close (tie.spec (λ c. search needs) (λ c κs. tt) (λ c κs. tt) (λ c κs. tt) returns)
