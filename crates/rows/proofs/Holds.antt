@@ -18,7 +18,7 @@ use Rattle.levels.specs.Clamps.{baseOf, packClampOf, faultOf}
 use Rattle.levels.specs.Comparators.{latchesOf, shortOf, lowOf, packOverOf}
 use Rattle.levels.specs.Voltage.{chargeVoltageOf, belowRecharge, taperOf}
 use Rattle.lines.specs.Decimal.{decimal, decimalBy}
-use Rattle.lines.specs.Text.{endText, lineText}
+use Rattle.lines.specs.Text.{endText, lineText, headedText}
 use Rattle.moves.specs.Finish.{finishOf, withFlags}
 use Rattle.moves.specs.Plain.{powerOnOf, setOf, writeEventOf, takeFlagsOf, serviceOf, resetEventOf, poweredOf}
 use Rattle.number.specs.Number.{numberAt, readNumber, readGroups, spell, groups}
@@ -45,5 +45,5 @@ use Rattle.start.specs.Values.{startOf, startSettings, startVreg, startIchg, st
 use Rattle.valid.specs.Holds.{stateOk, profileOk, registersOk, cycleOk, watchdogOk, sampleOk}
 
 pub every-row : EveryRow
-unfolding rows linesText wholeOf endText spellEvent numberAt lineText numbersOf pageOf startWalk stepOf spellItems readNumber decimal walkOf heldOf reportOf firstOf stateOk movedOf readGroups decimalBy recordAt settingNumbers fastCurrent chargeVoltageOf inputLimitOf powerOnOf profileOk settingsOk registersOk cycleOk watchdogOk sampleOk setOf writeEventOf takeFlagsOf observeOf serviceOf resetEventOf spell readRecord chargeClampOf shareOf baseOf inPack cutOf poweredOf mayHold finishOf storeOf writeOf withFlags observedOf resetOf groups metBy packClampOf settleOf startOf shownOf rangeOf edgesOf merged pulseOf writtenTo countedOf expiredOf clearedIf timesOf unitsOf startSettings restored lineOf readItems forcedOf latchesOf bandOf settledOf testsOf fieldsAt ranges seenOf expiresOf phaseChanges bandChanges reachesOf recounted placed takenOf byteAt regulatedOf startVreg startIchg startVsysmin flagsNumber eventOf faultOf shortOf lowOf packOverOf cycleOf phaseOf permittedOf suspendsOf belowRecharge taperOf endingOf fields reachedOf signedOf belowShare clearsOf endsOf judgedOf restartsOf
+unfolding rows linesText wholeOf endText headedText spellEvent numberAt lineText numbersOf pageOf startWalk stepOf spellItems readNumber decimal walkOf heldOf reportOf firstOf stateOk movedOf readGroups decimalBy recordAt settingNumbers fastCurrent chargeVoltageOf inputLimitOf powerOnOf profileOk settingsOk registersOk cycleOk watchdogOk sampleOk setOf writeEventOf takeFlagsOf observeOf serviceOf resetEventOf spell readRecord chargeClampOf shareOf baseOf inPack cutOf poweredOf mayHold finishOf storeOf writeOf withFlags observedOf resetOf groups metBy packClampOf settleOf startOf shownOf rangeOf edgesOf merged pulseOf writtenTo countedOf expiredOf clearedIf timesOf unitsOf startSettings restored lineOf readItems forcedOf latchesOf bandOf settledOf testsOf fieldsAt ranges seenOf expiresOf phaseChanges bandChanges reachesOf recounted placed takenOf byteAt regulatedOf startVreg startIchg startVsysmin flagsNumber eventOf faultOf shortOf lowOf packOverOf cycleOf phaseOf permittedOf suspendsOf belowRecharge taperOf endingOf fields reachedOf signedOf belowShare clearsOf endsOf judgedOf restartsOf
 every-row = (refl, (refl, (refl, (refl, (refl, (refl, (refl, (refl, (refl, (refl, tt))))))))))
