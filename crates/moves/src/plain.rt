@@ -6,7 +6,6 @@ use crate::answer::accepted;
 use crate::answer::refused;
 use crate::finish;
 use base::refusal::Refusal;
-use judge::settle;
 use parts::flags;
 use parts::profile::Profile;
 use parts::settings::Settings;
@@ -19,7 +18,7 @@ use settings::numbered;
 use settings::ranges;
 use valid::holds;
 
-// A power-on, whatever the model holds.
+// A power-on, whatever the model holds: it settles as any event does, and its flags are its own.
 pub fn power_on(m: Model, p: Profile) -> Stepped
     ensures { λ r. ⌜ steppedTold r ≡ powerOnOf m p ⌝ }
 {
@@ -27,7 +26,8 @@ pub fn power_on(m: Model, p: Profile) -> Stepped
         return Stepped::Refused(Refusal::OutOfRange, 0, m);
     }
     let begun = start::start(p);
-    let settled = settle::settle(begun, false);
+    let f = finish::finish(begun, begun, false);
+    let settled = f.state;
     let powered = flags::powered();
     let state = finish::flagged(settled, powered);
     let none = flags::none();

@@ -1,5 +1,6 @@
 -- `power_on` meets its contract.
 use Rattle.moves.specs.Plain.{poweredOf, powerOnOf}
+use Rattle.moves.specs.Finish.{withFlags, finishOf}
 use Rattle.moves.proofs.plain.power_on.Statement.{statement}
 use Rattle.moves.proofs.plain.power_on.Tie as tie
 
@@ -8,8 +9,11 @@ unfolding powerOnOf
 returns c = simp (← c .before .profile-ok .ensures, c .if1 .taken)
 
 returns-2 : tie.Need-returns-2
-unfolding powerOnOf poweredOf
-returns-2 c = simp (c .none .ensures, c .before .flagged .ensures, c .before .before .powered .ensures, c .before .before .before .settle .ensures, c .before .before .before .before .start .ensures, ← c .before .before .before .before .before .before .profile-ok .ensures, c .before .before .before .before .before .if1 .left)
+unfolding powerOnOf poweredOf finishOf withFlags
+returns-2 c =
+    let at-finish = c .before .before .before .before in
+    let at-start = at-finish .before in
+    simp (c .none .ensures, c .before .flagged .ensures, c .before .before .powered .ensures, at-finish .finish .ensures, at-start .start .ensures, ← at-start .before .before .profile-ok .ensures, at-start .before .if1 .left)
 
 pub power-on-spec : {M : Type 1} → statement M
 power-on-spec =
