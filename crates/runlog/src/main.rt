@@ -50,7 +50,7 @@ fn ended(w: Walk, stop: Stop) -> bool {
     }
 }
 
-// Runs a log of 65,536 bytes at the most: a record has a byte at least, so 4,097 pages of 16 are enough.
+// Runs a log of 65,536 bytes at the most: 4,097 pages of 16 are enough (`EnoughPages`, crate `replay`).
 fn run(log: &[u8]) {
     let mut walk = walking::start();
     let mut turns: usize = 0;
