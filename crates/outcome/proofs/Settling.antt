@@ -2,7 +2,7 @@
 use Prim.Native.Nat.{ℕ}
 use mathlib.Core.Path.{_≡_, refl, sym, _∙_}
 use mathlib.Core.List.{List}
-use Rattle.outcome.specs.One.{ContractSettles, ContractSettlesBytes, Settled, itself}
+use Rattle.outcome.specs.One.{ContractSettles, ContractSettlesBytes, PlainSettles, Settled, itself}
 
 pub contract-settles : ContractSettles
 contract-settles A B told settled given a b p q = settled a b (p ∙ sym q)
@@ -12,3 +12,6 @@ contract-settles-bytes A B told settled given bytes a b p q = λ i. (settled (a 
 
 pub itself-settles : {A : Type 0} → Settled (itself {A = A})
 itself-settles a b e = e
+
+pub plain-settles : PlainSettles
+plain-settles A given = contract-settles A A itself itself-settles given

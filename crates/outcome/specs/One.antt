@@ -29,3 +29,7 @@ ContractSettlesBytes = (A B : Type 0) (told : A → B) → Settled told → (giv
 -- a result that is told as it is
 abbrev pub itself : {A : Type 0} → A → A
 itself a = a
+
+-- every call whose promise is `r ≡ ..`, the leaves' and all others that `Calls` doesn't name: its result is what a definition gives
+abbrev pub PlainSettles : Type 1
+PlainSettles = (A : Type 0) (given : A) → One (Tells itself given)
