@@ -14,3 +14,4 @@ mod Powering
 mod Stepping
 pub mod Agreeing
 pub mod Logging
+pub mod Sharing

@@ -27,7 +27,8 @@ use Rattle.third.proofs.Crossings.{short-means, low-means}
 use Rattle.third.proofs.Charges.{stage-is}
 use Rattle.third.proofs.Charging.{charging-means}
 use Rattle.third.proofs.Amounts.{ichg-least, iprechg-least, clamp-least, share-least, share-most, some-share, share-below, share-of-each}
-use Rattle.third.proofs.Shows.{fastAt, chargeAt, volts, current-is, volts-are, volts-most, only-charging, some-current, staged-current}
+use Rattle.history.specs.Reported.{fastAt}
+use Rattle.third.proofs.Shows.{chargeAt, volts, current-is, volts-are, volts-most, only-charging, some-current, staged-current}
 
 not-true : (b : Bool) → (b ≡ true → ⊥) → b ≡ false
 not-true true h = absurd (h refl)
@@ -64,6 +65,7 @@ module _ (r : Run) where
   clamp-is e = rw e
 
   bounded : current ≡ fastAt r → Bounded r current
+  unfolding fastAt
   bounded e =
       let most = share-below (settingOf 2 r) (chargeClamp r) (shareIn (bandAt r) r) (share-most (bandAt r) r) in
       let each = share-of-each (settingOf 2 r) (chargeClamp r) (shareIn (bandAt r) r) in
@@ -76,6 +78,7 @@ module _ (r : Run) where
       }
 
   above-zero : Accepted r → Charging r → 0 < current
+  unfolding fastAt
   above-zero h c =
       let fast : 0 < fastAt r =
       some-share (settingOf 2 r) (chargeClamp r) (shareIn (bandAt r) r) (ichg-least r h)
@@ -88,6 +91,7 @@ module _ (r : Run) where
 
   -- of the account's state
   pub third-of : Accepted r → Third r (reportOf (stateOf r))
+  unfolding fastAt
   third-of h =
       let most : volts r ≤ chargeAt r = volts-most r (charging (phaseAt r)) refl in
       record {
