@@ -20,8 +20,8 @@ bench:
 
 # Header, archive and programs, for x86-64.
 install: runlog partlog
-	@rt staticlib firmware
+	@rt staticlib c_calls
 	install -D -m 644 include/cheukdane.h $(DESTDIR)$(PREFIX)/include/cheukdane.h
-	install -D -m 644 target/staticlib/libfirmware.a $(DESTDIR)$(PREFIX)/lib/libcheukdane.a
+	install -D -m 644 target/staticlib/libc_calls.a $(DESTDIR)$(PREFIX)/lib/libcheukdane.a
 	install -D -m 755 target/bin/runlog $(DESTDIR)$(PREFIX)/bin/runlog
 	install -D -m 755 target/bin/partlog $(DESTDIR)$(PREFIX)/bin/partlog

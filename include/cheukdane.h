@@ -4,7 +4,7 @@
  * lends it to each call. Every call answers on every input and asks nothing of its caller but that each pointer points to as many bytes as the length beside it says (an
  * empty part may be NULL, 0) and that bytes which a call may change are lent to it once.
  *
- * Words are 32-bit numbers, lowest byte first. A size_t has 64 bits. `number` is 0, or the refusal's number of the paper's table; `place` is the refusal's place: the
+ * Words are 32-bit numbers, lowest byte first. A size_t has 64 bits. `log_number` is 0, or the refusal's number of the paper's table; `place` is the refusal's place: the
  * record's start in a log, 0 outside one. A refusal leaves every lent byte as it was.
  *
  * In every call that is lent an image, bytes that aren't an image, or are of another length than CHEUKDANE_IMAGE, are 5 before all else; then an answer buffer that is
@@ -83,10 +83,10 @@ struct cheukdane_compared {
     uint64_t place;  /* where the rest, or the record, starts */
 };
 
-/* Makes the image of a model before its power-on. 5 where `image` is of another length. */
+/* Makes the image of a model before its power-on. 5 where `c_image` is of another length. */
 struct cheukdane_answer cheukdane_off(uint8_t *image, size_t image_length);
 
-/* Plays the record at a place of a log. Accepted: the image is the model after it and `shown` shows it. Refused by the model: 5 to 11, with the kind, and `next` leads on
+/* Plays the record at a place of a log. Accepted: the image is the model after it and `report_state` shows it. Refused by the model: 5 to 11, with the kind, and `next` leads on
  * to the next record. Unreadable: 1 to 4 and kind 0. At the log's end or past it: number 0 and kind 0, and no byte is changed. With 5 for the image or 12 no record is
  * looked for: kind 0. */
 struct cheukdane_played cheukdane_play(uint8_t *image, size_t image_length, const uint8_t *log, size_t log_length, size_t place, uint8_t *shown, size_t shown_length);

@@ -2,7 +2,7 @@
 use base::written::Written;
 use libc::STDERR_FILENO;
 use libc::STDOUT_FILENO;
-use logs::answer::Compared;
+use log_pairs::answer::Compared;
 
 // How many bytes a file has, 65,537 for more than a log may have; or that it can't be read.
 enum Loaded {
@@ -40,7 +40,7 @@ fn load(i: usize, log: &mut [u8]) -> Loaded {
 // Prints what the comparison came to.
 fn print_answer(compared: Compared) {
     let mut out = [0u8; 64];
-    let put = logs::text::answer(&mut out, compared);
+    let put = log_pairs::text::answer(&mut out, compared);
     let Written::Count(n) = put else {
         return;
     };
@@ -66,7 +66,7 @@ fn main() {
     };
     if n <= 65537 {
         if m <= 65537 {
-            print_answer(logs::compare_inputs(&first[..n], &second[..m]));
+            print_answer(log_pairs::compare_inputs(&first[..n], &second[..m]));
         }
     }
 }

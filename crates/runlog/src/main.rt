@@ -1,19 +1,19 @@
 // Runs the log on standard input and prints a line for each record, then the last line. All that matters is in the crates below: main reads, walks and prints.
 use base::refusal;
 use base::written::Written;
-use charger::paging;
-use charger::paging::Stop;
-use charger::walking;
-use charger::walking::Walk;
 use libc::STDIN_FILENO;
 use libc::STDOUT_FILENO;
-use lines::text;
-use printing::PageLines;
+use report_pages::PageLines;
+use report_text::text;
+use step_event::paging;
+use step_event::paging::Stop;
+use step_event::walking;
+use step_event::walking::Walk;
 
 // Prints a page's lines.
 fn print_page(lines: PageLines, count: usize) {
     let mut out = [0u8; 2048];
-    let put = printing::page(&mut out, lines, count);
+    let put = report_pages::page(&mut out, lines, count);
     let Written::Count(n) = put else {
         return;
     };
@@ -50,7 +50,7 @@ fn ended(w: Walk, stop: Stop) -> bool {
     }
 }
 
-// Runs a log of 65,536 bytes at the most: 4,097 pages of 16 are enough (`EnoughPages`, crate `replay`).
+// Runs a log of 65,536 bytes at the most: 4,097 pages of 16 are enough (`EnoughPages`, crate `step_replay`).
 fn run(log: &[u8]) {
     let mut walk = walking::start();
     let mut turns: usize = 0;

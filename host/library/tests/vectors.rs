@@ -10,7 +10,7 @@ use std::path::{Path, PathBuf};
 const MOST_INPUT: usize = 65_536;
 
 fn folder(name: &str) -> PathBuf {
-    Path::new(env!("CARGO_MANIFEST_DIR")).join("../../crates/vectors/data").join(name)
+    Path::new(env!("CARGO_MANIFEST_DIR")).join("../../crates/test_vectors/data").join(name)
 }
 
 fn bytes(path: &Path) -> Vec<u8> {

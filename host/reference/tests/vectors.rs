@@ -11,7 +11,7 @@ use reference::{partlog, runlog, statelog};
 fn vectors() -> PathBuf {
     match std::env::var_os("CHEUKDANE_VECTORS") {
         Some(folder) => PathBuf::from(folder),
-        None => Path::new(env!("CARGO_MANIFEST_DIR")).join("../../crates/vectors/data"),
+        None => Path::new(env!("CARGO_MANIFEST_DIR")).join("../../crates/test_vectors/data"),
     }
 }
 

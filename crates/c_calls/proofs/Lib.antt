@@ -1,0 +1,7 @@
+-- The laws of the crate `c_calls`.
+pub mod Leaves
+mod Lands
+mod Plays
+mod Replays
+mod Shows
+mod Writes

@@ -1,0 +1,26 @@
+-- `cheukdane_replay` meets its contract.
+use borrow.Author.Needs.{needs}
+use Rattle.c_calls.proofs.Replays.{not-replayed, replayed}
+use Rattle.c_calls.proofs.replaying.cheukdane_replay.Statement.{statement}
+use Rattle.c_calls.proofs.replaying.cheukdane_replay.Tie as tie
+
+returns : tie.Need-returns
+returns c =
+    let at-load = c .before .before in
+    let a = at-load .before .before .before .before in
+    not-replayed (a .args .image .now) (a .args .log .now) (a .args .place) (at-load .load .result) (at-load .load .ensures) (c .enum-told .given .1)
+
+returns-2 : tie.Need-returns-2
+returns-2 c =
+    let at-save = c .before .before .before in
+    let at-replay = at-save .before .before .before in
+    let at-loaded = at-replay .before .before in
+    let at-load = at-loaded .before .before in
+    let a = at-load .before .before .before .before in
+    let g = at-loaded .loaded .given in
+    replayed (a .args .image .now) (a .args .log .now) (a .args .place) (at-load .load .result) (at-load .load .ensures) (g .0 .0) (at-replay .replay .result) (at-save .save .last .0) (g .1) (at-replay .replay .ensures) (at-save .save .ensures .1)
+
+pub cheukdane-replay-spec : {M : Type 1} → statement M
+cheukdane-replay-spec =
+    tie.close
+    (tie.spec (λ c κs. tt) (λ c. search needs) (λ c. search needs) (λ c κs. tt) (λ c κs. tt) (λ c. search needs) (λ c. search needs) returns (λ c. search needs) returns-2)

@@ -1,0 +1,8 @@
+-- The definitions of the crate `c_calls`.
+pub mod Landing
+pub mod Playing
+pub mod Replaying
+pub mod Showing
+pub mod Writing
+pub mod Comparing
+pub mod Promises

@@ -1,0 +1,70 @@
+// The model that a call starts with, and what an event leaves in the image and the answer buffer.
+ghost use mathlib.Core.Path.{_≡_};
+ghost use lib.ListN.{length};
+ghost use Rattle.step_kinds.specs.Plain.{steppedTold};
+ghost use Rattle.c_calls.specs.Landing.{both, shownNumbers, landOf, readyTold, readyOf};
+use base::choice;
+use base::refusal;
+use base::refusal::Refusal;
+use c_image::Loaded;
+use report_state::line;
+use state_parts::flags;
+use state_parts::flags::Flags;
+use state_parts::state::Model;
+use step_kinds::answer::Stepped;
+
+// The model of an image, or why the call is refused before all else.
+pub enum Ready {
+    Model(Model),
+    Refused(Refusal),
+}
+
+// The model of an image, in a call whose answer buffer has `room` bytes and wants so many.
+pub(crate) fn begin(image: &[u8], room: usize, wanted: usize) -> Ready
+    ensures { λ r. ⌜ readyTold r ≡ readyOf (now (image .entry)) room wanted ⌝ }
+{
+    let loaded = c_image::load(image);
+    let Loaded::Held(model) = loaded else {
+        return Ready::Refused(Refusal::OutOfRange);
+    };
+    if room < wanted {
+        return Ready::Refused(Refusal::NoRoom);
+    }
+    Ready::Model(model)
+}
+
+// What an accepted event shows.
+type Shown = [u32; 7];
+
+fn shown_numbers(m: Model, pulse: bool, handed: Flags) -> Shown
+    ensures { λ r. ⌜ r ≡ shownNumbers m pulse handed ⌝ }
+{
+    let line = line::line_of(0, 0, 0, choice::bit(pulse), m);
+    let taken = flags::number(handed);
+    [
+        line.phase,
+        line.current,
+        line.voltage,
+        line.limit,
+        line.pulse,
+        line.flags,
+        taken,
+    ]
+}
+
+// Leaves what an event came to in the image and the answer buffer: its number.
+pub(crate) fn land(image: &mut [u8], shown: &mut [u8], stepped: Stepped) -> u32
+    requires { ⌜ length (now image) ≡ 216 ⌝ }
+    ensures { λ r. ⌜ both r (now (image .exit)) (now (shown .exit)) ≡ landOf (steppedTold stepped) (now (image .entry)) (now (shown .entry)) ⌝ }
+{
+    match stepped {
+        Stepped::Accepted(s, pulse, handed) => {
+            let model = Model::On(s);
+            let numbers = shown_numbers(model, pulse, handed);
+            c_words::write(shown, &numbers);
+            c_image::save(image, model);
+            0
+        }
+        Stepped::Refused(r, _, _) => refusal::number(r),
+    }
+}

@@ -1,0 +1,40 @@
+// The call that plays a log's records from a place on.
+ghost use mathlib.Core.Path.{_≡_};
+ghost use Rattle.c_calls.specs.Landing.{left};
+ghost use Rattle.c_calls.specs.Replaying.{replayOf};
+use crate::answer::Replayed;
+use c_image::Loaded;
+use step_event::walking::Walk;
+
+// Plays every record of a log from a place on.
+#[no_mangle]
+pub extern "C" fn cheukdane_replay(image: &mut [u8], log: &[u8], place: usize) -> Replayed
+    ensures { λ r. ⌜ left r (now (image .exit)) ≡ replayOf (now (image .entry)) (now (log .entry)) place ⌝ }
+{
+    let loaded = c_image::load(&image[..]);
+    match loaded {
+        Loaded::NoImage => Replayed {
+            number: 5,
+            code: 0,
+            records: 0,
+            place,
+        },
+        Loaded::Held(model) => {
+            let from = Walk {
+                model,
+                number: 0,
+                place,
+            };
+            let ended = step_replay::replay(log, from);
+            let after = ended.walk;
+            let held = after.model;
+            c_image::save(image, held);
+            Replayed {
+                number: 0,
+                code: ended.code,
+                records: after.number as usize,
+                place: ended.place,
+            }
+        }
+    }
+}

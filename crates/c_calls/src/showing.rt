@@ -1,0 +1,100 @@
+// The calls that look at the model of an image.
+ghost use mathlib.Core.Path.{_≡_};
+ghost use Rattle.c_calls.specs.Landing.{left};
+ghost use Rattle.c_calls.specs.Showing.{reportNumbers, reportCallOf, registerOf, byteTold};
+ghost use Rattle.state_registers.specs.Reads.{readTold};
+use crate::answer::Answer;
+use crate::answer::Byte;
+use crate::landing;
+use crate::landing::Ready;
+use base::refusal;
+use c_image::Loaded;
+use report_state::line;
+use report_state::stat;
+use state_parts::state::Model;
+use state_parts::state::State;
+use state_registers::reading;
+use state_registers::reading::ReadAnswer;
+
+// What a report has.
+type Report = [u32; 6];
+
+fn report_numbers(s: State) -> Report
+    ensures { λ r. ⌜ r ≡ reportNumbers s ⌝ }
+{
+    let line = line::line_of(0, 0, 0, 0, Model::On(s));
+    let stat = stat::number(stat::stat(s));
+    [
+        line.phase,
+        line.current,
+        line.voltage,
+        line.limit,
+        line.flags,
+        stat,
+    ]
+}
+
+// The report, the flags and STAT of the model as it stands.
+#[no_mangle]
+pub extern "C" fn cheukdane_report(image: &[u8], report: &mut [u8]) -> Answer
+    ensures { λ r. ⌜ left r (now (report .exit)) ≡ reportCallOf (now (image .entry)) (now (report .entry)) ⌝ }
+{
+    let ready = landing::begin(image, report.len(), 24);
+    match ready {
+        Ready::Refused(r) => {
+            let number = refusal::number(r);
+            Answer { number, place: 0 }
+        }
+        Ready::Model(model) => match model {
+            Model::Off => Answer {
+                number: 6,
+                place: 0,
+            },
+            Model::On(s) => {
+                let numbers = report_numbers(s);
+                c_words::write(report, &numbers);
+                Answer {
+                    number: 0,
+                    place: 0,
+                }
+            }
+        },
+    }
+}
+
+// A register's byte, or its refusal.
+fn byte_of(got: ReadAnswer) -> Byte
+    ensures { λ r. ⌜ r ≡ byteTold (readTold got) ⌝ }
+{
+    match got {
+        ReadAnswer::Byte(b) => Byte {
+            number: 0,
+            byte: b as u32,
+            place: 0,
+        },
+        ReadAnswer::Refused(r) => {
+            let number = refusal::number(r);
+            Byte {
+                number,
+                byte: 0,
+                place: 0,
+            }
+        }
+    }
+}
+
+// A register's byte.
+#[no_mangle]
+pub extern "C" fn cheukdane_register(image: &[u8], address: u32) -> Byte
+    ensures { λ r. ⌜ r ≡ registerOf (now (image .entry)) address ⌝ }
+{
+    let loaded = c_image::load(image);
+    match loaded {
+        Loaded::NoImage => Byte {
+            number: 5,
+            byte: 0,
+            place: 0,
+        },
+        Loaded::Held(model) => byte_of(reading::read_register(model, address)),
+    }
+}

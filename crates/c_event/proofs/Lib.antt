@@ -1,0 +1,3 @@
+-- The laws of the crate `c_event`.
+mod Givens
+pub mod Answers

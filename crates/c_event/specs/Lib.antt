@@ -1,0 +1,3 @@
+-- The definitions of the crate `c_event`.
+pub mod Given
+pub mod Promises

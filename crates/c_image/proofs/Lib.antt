@@ -1,0 +1,3 @@
+-- The laws of the crate `c_image`.
+pub mod ImageLaws
+mod Stores

@@ -1,0 +1,3 @@
+-- The definitions of the crate `c_image`.
+pub mod Images
+pub mod Promises

@@ -1,0 +1,38 @@
+-- What is promised of images: the types of the theorems that proofs/ proves.
+use Prim.Native.Nat.{ℕ}
+use mathlib.Core.Path.{_≡_}
+use mathlib.Core.List.{List}
+use lib.ListN.{length}
+use Rattle.base.specs.Told.{accepted}
+use Rattle.state_parts.specs.declared.state.Model.{Model}
+use Rattle.state_parts.specs.declared.state.Model.the-variants.{Off, On}
+use Rattle.c_words.specs.Promises.{AllWords}
+use Rattle.c_list.specs.Promises.{Stored}
+use Rattle.c_list.specs.Numbers.{stateNumbers}
+use Rattle.c_image.specs.Images.{imageOf, modelIn, loadedTold}
+use Rattle.c_image.specs.declared.Loaded.{Loaded}
+
+-- every number of the model has 32 bits and every stored byte eight, as in every model of the program's
+abbrev pub Storable : Model → Type 0
+Storable Off = Unit {0}
+Storable (On s) = AllWords (stateNumbers s) × Stored (s .registers)
+
+-- load after save is the model
+abbrev pub LoadsBack : Type 0
+LoadsBack = (m : Model) → Storable m → modelIn (imageOf m) ≡ accepted m
+
+-- one image each: whatever loads as a model is that model's image, byte for byte
+abbrev pub OneImage : Type 0
+OneImage = (bytes : List ℕ) (m : Model) → modelIn bytes ≡ accepted m → bytes ≡ imageOf m
+
+-- every image has the header's length
+abbrev pub ImageLong : Type 0
+ImageLong = (m : Model) → length (imageOf m) ≡ 216
+
+-- two models never have one image
+abbrev pub ImagesDiffer : Type 0
+ImagesDiffer = (m n : Model) → Storable m → Storable n → imageOf m ≡ imageOf n → m ≡ n
+
+-- what is told of an answer settles it
+abbrev pub OneAnswer : Type 0
+OneAnswer = (a b : Loaded) → loadedTold a ≡ loadedTold b → a ≡ b

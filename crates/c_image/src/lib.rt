@@ -1,0 +1,106 @@
+// A model's image: its numbers as words, and the model back out of them.
+use c_list::list::Numbers;
+use c_words::same;
+use state_parts::state::Model;
+ghost use mathlib.Core.Path.{_≡_};
+ghost use mathlib.Core.List.{_∷_};
+ghost use lib.ListN.{length};
+ghost use Rattle.c_words.specs.Words.{bytesOf};
+ghost use Rattle.c_words.specs.Same.{sameBytes};
+ghost use Rattle.c_image.specs.Images.{imageOf, modelFrom, modelIn, loadedTold, isLong, savedIn};
+
+// The model of an image, or that the bytes aren't one.
+pub enum Loaded {
+    Held(Model),
+    NoImage,
+}
+
+// Stores a first word and the numbers after it over a part of an image's length.
+fn put(image: &mut [u8], first: u32, all: Numbers)
+    requires { ⌜ length (now image) ≡ 216 ⌝ }
+    ensures { λ r. ⌜ now (image .exit) ≡ bytesOf (first ∷ all) ⌝ }
+{
+    let start = [first; 1];
+    c_words::write(image, &start);
+    c_words::write(&mut image[4..], &all);
+}
+
+// Stores a model's image over a part of its length.
+fn put_model(image: &mut [u8], m: Model)
+    requires { ⌜ length (now image) ≡ 216 ⌝ }
+    ensures { λ r. ⌜ now (image .exit) ≡ imageOf m ⌝ }
+{
+    match m {
+        Model::Off => {
+            let none = [0u32; 53];
+            put(image, 0, none)
+        }
+        Model::On(s) => put(image, 1, c_list::list::numbers_of(s)),
+    }
+}
+
+// Saves a model in a part of an image's length: whether it is of that length. If not, no byte is changed.
+pub fn save(image: &mut [u8], m: Model) -> bool
+    ensures { λ r. ⌜ (r ≡ isLong (now (image .entry))) × (now (image .exit) ≡ savedIn (now (image .entry)) m) ⌝ }
+{
+    if image.len() != 216 {
+        return false;
+    }
+    put_model(image, m);
+    true
+}
+
+// The model that bytes of an image's length would be the image of.
+fn model_from(image: &[u8]) -> Model
+    requires { ⌜ length (now image) ≡ 216 ⌝ }
+    ensures { λ r. ⌜ r ≡ modelFrom (now (image .entry)) ⌝ }
+{
+    let mut first = [0u32; 1];
+    c_words::read(image, &mut first);
+    if first[0] == 0 {
+        return Model::Off;
+    }
+    let mut all = [0u32; 53];
+    c_words::read(&image[4..], &mut all);
+    Model::On(c_list::made::made(all))
+}
+
+// Whether bytes of an image's length are those of a first word and the numbers after it.
+fn holds(image: &[u8], first: u32, all: Numbers) -> bool
+    requires { ⌜ length (now image) ≡ 216 ⌝ }
+    ensures { λ r. ⌜ r ≡ sameBytes (bytesOf (first ∷ all)) (now (image .entry)) ⌝ }
+{
+    let start = [first; 1];
+    let begins = same::same(&start, &image[..4]);
+    let goes_on = same::same(&all, &image[4..]);
+    begins & goes_on
+}
+
+// Whether bytes of an image's length are a model's image.
+fn is_image(image: &[u8], m: Model) -> bool
+    requires { ⌜ length (now image) ≡ 216 ⌝ }
+    ensures { λ r. ⌜ r ≡ sameBytes (imageOf m) (now (image .entry)) ⌝ }
+{
+    match m {
+        Model::Off => {
+            let none = [0u32; 53];
+            holds(image, 0, none)
+        }
+        Model::On(s) => holds(image, 1, c_list::list::numbers_of(s)),
+    }
+}
+
+// Loads the model of an image.
+pub fn load(image: &[u8]) -> Loaded
+    ensures { λ r. ⌜ loadedTold r ≡ modelIn (now (image .entry)) ⌝ }
+{
+    if image.len() != 216 {
+        return Loaded::NoImage;
+    }
+    let model = model_from(image);
+    if is_image(image, model) {
+        Loaded::Held(model)
+    } else {
+        Loaded::NoImage
+    }
+}

@@ -1,0 +1,65 @@
+-- A state's numbers make the state again.
+use Prim.Native.Nat.{ℕ, _%_, _<_}
+use mathlib.Core.Path.{_≡_, refl}
+use native.Mathlib.Omega.{arith}
+use Rattle.state_parts.specs.Numbers.{phaseNumber, bandNumber}
+use Rattle.state_parts.specs.declared.band.Band.{Band}
+use Rattle.state_parts.specs.declared.band.Band.the-variants.{Normal, Cold, Hot, Cool, Warm}
+use Rattle.state_parts.specs.declared.phase.Phase.{Phase}
+use Rattle.state_parts.specs.declared.phase.Phase.the-variants.{Idle, Trickle, Precharge, Fast, Taper, Done, Suspended, Fault}
+use Rattle.log_event.proofs.Remaking.{signs}
+use Rattle.c_list.specs.Numbers.{stateNumbers}
+use Rattle.c_list.specs.Back.{phaseFrom, bandFrom, stateFrom}
+use Rattle.c_list.specs.Promises.{MadeAgain}
+use Rattle.c_list.proofs.FlagBits.{test-back, flags-back}
+
+phase-back : (p : Phase) → phaseFrom (phaseNumber p) ≡ p
+phase-back Idle = refl
+phase-back Trickle = refl
+phase-back Precharge = refl
+phase-back Fast = refl
+phase-back Taper = refl
+phase-back Done = refl
+phase-back Suspended = refl
+phase-back Fault = refl
+
+band-back : (b : Band) → bandFrom (bandNumber b) ≡ b
+band-back Normal = refl
+band-back Cold = refl
+band-back Hot = refl
+band-back Cool = refl
+band-back Warm = refl
+
+byte-back : (n : ℕ) → n < 256 → n % 256 ≡ n
+byte-back n h = omega arith
+
+pub made-again : MadeAgain
+unfolding stateFrom stateNumbers
+made-again s h =
+    let g = s .registers in
+    rw (
+      byte-back (g .r15) (h .r15),
+      byte-back (g .r16) (h .r16),
+      byte-back (g .r17) (h .r17),
+      byte-back (g .r18) (h .r18),
+      byte-back (g .r19) (h .r19),
+      byte-back (g .r1a) (h .r1a),
+      signs .back (s .sample .ibat),
+      phase-back (s .phase),
+      band-back (s .band),
+      flags-back (s .flags),
+      test-back (s .settings .enchg),
+      test-back (s .settings .enterm),
+      test-back (s .settings .enhiz),
+      test-back (s .settings .enextilim),
+      test-back (s .settings .disstat),
+      test-back (g .vchgoverride),
+      test-back (g .celloverride),
+      test-back (g .ichgoverride),
+      test-back (s .latches .inputok),
+      test-back (s .latches .inputover),
+      test-back (s .latches .short),
+      test-back (s .latches .low),
+      test-back (s .latches .packover),
+      test-back (s .cycle .done),
+    )

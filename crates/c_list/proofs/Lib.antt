@@ -1,0 +1,4 @@
+-- The laws of the crate `c_list`.
+pub mod Lengths
+pub mod FlagBits
+pub mod Again

@@ -1,0 +1,129 @@
+-- The state that a list of numbers makes. Every list makes one; only a state's own numbers are its image (`Images`).
+use Prim.Native.Nat.{ℕ, _+_, _/_, _%_}
+use mathlib.Core.Bool.{Bool}
+use mathlib.Core.List.{List, [], _∷_}
+use lib.ListN.{getD}
+use lib.Dec.{eqb}
+use Rattle.base.specs.Pick.{pick}
+use Rattle.base.specs.Volts.{packOf}
+use Rattle.state_parts.specs.Numbers.{phaseNumber, bandNumber}
+use Rattle.state_parts.specs.declared.band.Band.{Band}
+use Rattle.state_parts.specs.declared.band.Band.the-variants.{Normal, Cold, Hot, Cool, Warm}
+use Rattle.state_parts.specs.declared.phase.Phase.{Phase}
+use Rattle.state_parts.specs.declared.phase.Phase.the-variants.{Idle, Trickle, Precharge, Fast, Taper, Done, Suspended, Fault}
+use Rattle.state_parts.specs.declared.flags.Flags.{Flags}
+use Rattle.state_parts.specs.declared.profile.Profile.{Profile}
+use Rattle.state_parts.specs.declared.settings.Settings.{Settings}
+use Rattle.state_parts.specs.declared.registers.Registers.{Registers}
+use Rattle.state_parts.specs.declared.latches.Latches.{Latches}
+use Rattle.state_parts.specs.declared.cycle.Cycle.{Cycle}
+use Rattle.state_parts.specs.declared.watchdog.Watchdog.{Watchdog}
+use Rattle.state_parts.specs.declared.sample.Sample.{Sample}
+use Rattle.state_parts.specs.declared.state.State.{State}
+use Rattle.log_event.specs.Ibat.{signedOf}
+
+-- the i-th number of a part that starts at a place of the list
+abbrev number : List ℕ → ℕ → ℕ → ℕ
+number all at i = getD all (at + i) 0
+
+abbrev test : List ℕ → ℕ → ℕ → Bool
+test all at i = eqb (number all at i) 1
+
+abbrev byte : List ℕ → ℕ → ℕ → ℕ
+byte all at i = number all at i % 256
+
+abbrev pub profileFrom : List ℕ → ℕ → Profile
+profileFrom all at =
+    let n = number all at in
+    record { cell = n 0; vchg = n 1; ichg = n 2; ohms = n 3; stamp = n 4; ceiling = n 5; trickle = n 6; precharge = n 7; fast = n 8; watchdog = n 9 }
+
+abbrev pub settingsFrom : List ℕ → ℕ → Settings
+settingsFrom all at =
+    let n = number all at in
+    let t = test all at in
+    record {
+      vreg = packOf (n 0);
+      ichg = n 1;
+      iprechg = n 2;
+      iterm = n 3;
+      iindpm = n 4;
+      vsysmin = packOf (n 5);
+      lowv = n 6;
+      vrechg = n 7;
+      enchg = t 8;
+      enterm = t 9;
+      enhiz = t 10;
+      enextilim = t 11;
+      disstat = t 12;
+      masks = n 13;
+    }
+
+abbrev pub registersFrom : List ℕ → ℕ → Registers
+registersFrom all at =
+    let n = number all at in
+    let b = byte all at in
+    let t = test all at in
+    record { r15 = b 0; r16 = b 1; r17 = b 2; r18 = b 3; r19 = b 4; r1a = b 5; cells = n 6; vchgoverride = t 7; celloverride = t 8; ichgoverride = t 9 }
+
+abbrev pub latchesFrom : List ℕ → ℕ → Latches
+latchesFrom all at =
+    let t = test all at in
+    record { inputok = t 0; inputover = t 1; short = t 2; low = t 3; packover = t 4 }
+
+abbrev pub cycleFrom : List ℕ → ℕ → Cycle
+cycleFrom all at =
+    let n = number all at in
+    record { trickle = n 0; precharge = n 1; fast = n 2; done = test all at 3 }
+
+abbrev pub watchdogFrom : List ℕ → ℕ → Watchdog
+watchdogFrom all at = record { count = number all at 0 }
+
+abbrev pub sampleFrom : List ℕ → ℕ → Sample
+sampleFrom all at =
+    let n = number all at in
+    record { stamp = n 0; input = n 1; pack = n 2; ibat = signedOf (n 3); ts = n 4; bits = n 5 }
+
+-- the first of some that has a number; else the other
+abbrev pub whose : {A : Type 0} → (A → ℕ) → ℕ → List A → A → A
+whose f n [] other = other
+whose f n (a ∷ rest) other = pick (eqb n (f a)) a (whose f n rest other)
+
+abbrev pub phaseFrom : ℕ → Phase
+phaseFrom n = whose phaseNumber n (Idle ∷ Trickle ∷ Precharge ∷ Fast ∷ Taper ∷ Done ∷ Suspended ∷ []) Fault
+
+abbrev pub bandFrom : ℕ → Band
+bandFrom n = whose bandNumber n (Normal ∷ Cold ∷ Hot ∷ Cool ∷ []) Warm
+
+-- a number's bit of a weight
+abbrev bitAt : ℕ → ℕ → Bool
+bitAt n weight = eqb (n / weight % 2) 1
+
+unfoldable pub flagsFrom : ℕ → Flags
+flagsFrom n = record {
+  good = bitAt n 1;
+  lost = bitAt n 2;
+  iindpm = bitAt n 4;
+  vindpm = bitAt n 8;
+  thermal = bitAt n 16;
+  expired = bitAt n 32;
+  phase = bitAt n 64;
+  band = bitAt n 128;
+  inputover = bitAt n 256;
+  shutdown = bitAt n 512;
+  packover = bitAt n 1024;
+  limit = bitAt n 2048;
+}
+
+unfoldable pub stateFrom : List ℕ → State
+stateFrom all = record {
+  profile = profileFrom all 0;
+  settings = settingsFrom all 10;
+  registers = registersFrom all 24;
+  latches = latchesFrom all 34;
+  cycle = cycleFrom all 39;
+  watchdog = watchdogFrom all 43;
+  sample = sampleFrom all 44;
+  phase = phaseFrom (number all 50 0);
+  band = bandFrom (number all 51 0);
+  flags = flagsFrom (number all 52 0);
+}

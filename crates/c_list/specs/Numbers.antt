@@ -1,0 +1,68 @@
+-- The numbers of a state: one list, part after part. The header: "The state's numbers follow, from these words on."
+use Prim.Native.Nat.{ℕ}
+use mathlib.Core.Path.{_≡_}
+use mathlib.Core.List.{List, [], _∷_, _++_}
+use lib.ListN.{length}
+use Rattle.base.specs.Pick.{bitOf}
+use Rattle.base.specs.Volts.{millivoltsOf}
+use Rattle.state_parts.specs.Edges.{flagsNumber}
+use Rattle.state_parts.specs.Numbers.{phaseNumber, bandNumber}
+use Rattle.state_parts.specs.declared.profile.Profile.{Profile}
+use Rattle.state_parts.specs.declared.settings.Settings.{Settings}
+use Rattle.state_parts.specs.declared.registers.Registers.{Registers}
+use Rattle.state_parts.specs.declared.latches.Latches.{Latches}
+use Rattle.state_parts.specs.declared.cycle.Cycle.{Cycle}
+use Rattle.state_parts.specs.declared.watchdog.Watchdog.{Watchdog}
+use Rattle.state_parts.specs.declared.sample.Sample.{Sample}
+use Rattle.state_parts.specs.declared.state.State.{State}
+use Rattle.log_event.specs.Ibat.{loggedOf}
+
+-- "a power-on's ten numbers, in the log's order"
+abbrev pub profileNumbers : Profile → List ℕ
+profileNumbers p = p .cell ∷ p .vchg ∷ p .ichg ∷ p .ohms ∷ p .stamp ∷ p .ceiling ∷ p .trickle ∷ p .precharge ∷ p .fast ∷ p .watchdog ∷ []
+
+-- "settings 1 to 14"
+abbrev pub settingsNumbers : Settings → List ℕ
+settingsNumbers s =
+    millivoltsOf (s .vreg) ∷ s .ichg ∷ s .iprechg ∷ s .iterm ∷ s .iindpm ∷ millivoltsOf (s .vsysmin) ∷ s .lowv ∷ s .vrechg
+    ∷ bitOf (s .enchg) ∷ bitOf (s .enterm) ∷ bitOf (s .enhiz) ∷ bitOf (s .enextilim) ∷ bitOf (s .disstat) ∷ s .masks ∷ []
+
+-- "the bytes 0x15 to 0x1A; CELL_PIN; the VCHG, CELL and ICHG overrides"
+abbrev pub registersNumbers : Registers → List ℕ
+registersNumbers g =
+    g .r15 ∷ g .r16 ∷ g .r17 ∷ g .r18 ∷ g .r19 ∷ g .r1a ∷ g .cells ∷ bitOf (g .vchgoverride) ∷ bitOf (g .celloverride) ∷ bitOf (g .ichgoverride) ∷ []
+
+-- "VIN ok, VIN over, short, low, battery over"
+abbrev pub latchesNumbers : Latches → List ℕ
+latchesNumbers l = bitOf (l .inputok) ∷ bitOf (l .inputover) ∷ bitOf (l .short) ∷ bitOf (l .low) ∷ bitOf (l .packover) ∷ []
+
+-- "trickle, precharge and fast time in half milliseconds; done"
+abbrev pub cycleNumbers : Cycle → List ℕ
+cycleNumbers c = c .trickle ∷ c .precharge ∷ c .fast ∷ bitOf (c .done) ∷ []
+
+-- "milliseconds since it was zeroed, at most its period"
+abbrev pub watchdogNumbers : Watchdog → List ℕ
+watchdogNumbers w = w .count ∷ []
+
+-- "the last observation's six numbers, in the log's order; its stamp is the last stamp"
+abbrev pub sampleNumbers : Sample → List ℕ
+sampleNumbers x = x .stamp ∷ x .input ∷ x .pack ∷ loggedOf (x .ibat) ∷ x .ts ∷ x .bits ∷ []
+
+-- "0 to 7"; "0 normal, 1 cold, 2 hot, 3 cool, 4 warm"; "the held flags, bits 0 to 11"
+abbrev pub judgedNumbers : State → List ℕ
+judgedNumbers s = phaseNumber (s .phase) ∷ bandNumber (s .band) ∷ flagsNumber (s .flags) ∷ []
+
+unfoldable pub stateNumbers : State → List ℕ
+stateNumbers s =
+    profileNumbers (s .profile)
+    ++ settingsNumbers (s .settings)
+    ++ registersNumbers (s .registers)
+    ++ latchesNumbers (s .latches)
+    ++ cycleNumbers (s .cycle)
+    ++ watchdogNumbers (s .watchdog)
+    ++ sampleNumbers (s .sample)
+    ++ judgedNumbers s
+
+-- every state has as many
+abbrev pub StateLong : Type 0
+StateLong = (s : State) → length (stateNumbers s) ≡ 53

@@ -1,0 +1,4 @@
+-- The laws of the crate `c_words`.
+pub mod WordLaws
+pub mod Sames
+mod Turns

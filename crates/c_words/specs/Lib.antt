@@ -1,0 +1,4 @@
+-- The definitions of the crate `c_words`.
+pub mod Words
+pub mod Same
+pub mod Promises

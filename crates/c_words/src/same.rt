@@ -1,0 +1,21 @@
+// Whether a part has just the bytes of words.
+ghost use mathlib.Core.Path.{_≡_};
+ghost use Rattle.c_words.specs.Words.{bytesOf};
+ghost use Rattle.c_words.specs.Same.{sameBytes};
+use crate::word;
+
+pub fn same(all: &[u32], bytes: &[u8]) -> bool
+    ensures { λ r. ⌜ r ≡ sameBytes (bytesOf (now (all .entry))) (now (bytes .entry)) ⌝ }
+{
+    if bytes.len() != all.len() * 4 {
+        return false;
+    }
+    let mut i: usize = 0;
+    while i < all.len() {
+        if word(bytes, i * 4) != all[i] {
+            return false;
+        }
+        i += 1;
+    }
+    true
+}

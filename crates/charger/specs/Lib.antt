@@ -1,7 +1,0 @@
--- The definitions of the crate `charger`.
-pub mod Clock
-pub mod Steps
-pub mod Theorems
-pub mod Walks
-pub mod Pages
-pub mod Wholes

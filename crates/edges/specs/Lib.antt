@@ -1,3 +1,0 @@
--- The definitions of the crate `edges`.
-pub mod Expiry
-pub mod Edges

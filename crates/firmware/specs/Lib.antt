@@ -1,8 +1,0 @@
--- The definitions of the crate `firmware`.
-pub mod Landing
-pub mod Playing
-pub mod Replaying
-pub mod Showing
-pub mod Writing
-pub mod Comparing
-pub mod Promises

@@ -1,3 +1,0 @@
--- The laws of the crate `given`.
-mod Givens
-pub mod Answers

@@ -1,3 +1,0 @@
--- The definitions of the crate `given`.
-pub mod Given
-pub mod Promises

@@ -1,3 +1,0 @@
--- The laws of the crate `image`.
-pub mod ImageLaws
-mod Stores

@@ -1,3 +1,0 @@
--- The definitions of the crate `image`.
-pub mod Images
-pub mod Promises

@@ -1,0 +1,138 @@
+-- What settling finds after an event: the state that each kind of event writes is the account's, but for what settling is still to judge.
+use Prim.Native.Nat.{ℕ, _*_, _%_}
+use native.Mathlib.Nat.{add-zero}
+use mathlib.Core.Path.{_≡_, refl, sym, ap, _∙_}
+use mathlib.Core.Bool.{Bool, true, false, not, _&&_}
+use lib.Dec.{eqb}
+use Rattle.base.specs.Pick.{pick}
+use Rattle.base.specs.Stamps.{elapsedOf}
+use Rattle.state_parts.specs.Numbers.{phaseNumber}
+use Rattle.state_parts.specs.declared.cycle.Cycle.{Cycle}
+use Rattle.state_parts.specs.declared.registers.Registers.{Registers}
+use Rattle.state_parts.specs.declared.sample.Sample.{Sample}
+use Rattle.state_parts.specs.declared.settings.Settings.{Settings}
+use Rattle.state_parts.specs.declared.state.State.{State}
+use Rattle.state_parts.specs.declared.watchdog.Watchdog.{Watchdog}
+use Rattle.settle_permission.specs.Bits.{regulatedOf}
+use Rattle.state_settings.specs.Numbered.{storeOf}
+use Rattle.step_flags.specs.Expiry.{expiredOf}
+use Rattle.state_registers.specs.Writes.{writtenTo}
+use Rattle.state_registers.specs.Resets.{resetOf}
+use Rattle.step_event.specs.Clock as clock
+use Rattle.step_event.specs.Clock.{timesOf, countedOf, clearedIf, observedOf}
+use Rattle.step_kinds.specs.Plain.{withSettings, serviced}
+use Rattle.laws_account.specs.History.{Later, set, write, takeFlags, observe, service, reset, Run, _▸_}
+use Rattle.laws_account.specs.Held.{profileOf, sampleOf, elapsed, wasReset, wasServed, expired, overridden, takes, cellsOf, byteOf}
+use Rattle.laws_account.specs.Valued.{givenBy, settingOf}
+use Rattle.laws_account.specs.Judged.{bandAt}
+use Rattle.laws_account.specs.Cycles.{Stage, trickle, precharge, fast, limitOf, heldIn, unitsOf, gave, isDone, wasDone, timeIn, timeFound, phaseAt}
+use Rattle.laws_account.specs.States.{numbered, settingsAt, registersAt, latchesAt, watchdogAt, cycleAt, flagsAt, stateBy, stateOf}
+use Rattle.laws_account.proofs.Choices.{added}
+use Rattle.laws_account.proofs.Dogs.{expired-is, counted-is, served-is, waits}
+use Rattle.laws_account.proofs.Values.{store-is, count-is, start-is}
+use Rattle.laws_account.proofs.Bytes.{written-bytes, cleared-bytes, reset-bytes}
+
+-- what each kind of event writes
+abbrev pub writtenBy : State → Later → State
+writtenBy s (set number value) = withSettings s (storeOf (s .settings) number value)
+writtenBy s (write address byte) = writtenTo s address byte
+writtenBy s takeFlags = s
+writtenBy s (observe x) = observedOf s x
+writtenBy s service = serviced s
+writtenBy s reset = resetOf s
+
+-- the state of a run with these parts
+abbrev pub changed : Run → Settings → Registers → Cycle → Watchdog → Sample → State
+changed r t g c w x = record {
+  profile = profileOf r;
+  settings = t;
+  registers = g;
+  latches = latchesAt r;
+  cycle = c;
+  watchdog = w;
+  sample = x;
+  phase = phaseAt r;
+  band = bandAt r;
+  flags = flagsAt phaseAt r;
+}
+
+abbrev pub givenAt : Run → Later → Settings
+givenAt r e = numbered (λ number. givenBy number (r ▸ e) (settingOf number r))
+
+abbrev pub cycleFound : Run → Cycle
+cycleFound r = record {
+  trickle = timeFound phaseAt trickle r;
+  precharge = timeFound phaseAt precharge r;
+  fast = timeFound phaseAt fast r;
+  done = wasDone phaseAt r;
+}
+
+unfoldable pub found : Run → Later → State
+found r e = changed r (givenAt r e) (registersAt (r ▸ e)) (cycleFound (r ▸ e)) (watchdogAt (r ▸ e)) (sampleOf (r ▸ e))
+
+-- a stage that the phase counts in and that has a limit
+abbrev counted : Stage → Run → Bool
+counted s r = heldIn s (phaseNumber (phaseAt r)) && not (eqb (limitOf s (profileOf r)) 0)
+
+-- an event that brings no time gives no stage any
+no-units : (regulated : Bool) → _≡_ {A = ℕ} (pick regulated 0 (0 * 2)) 0
+no-units true = refl
+no-units false = refl
+
+either-zero : (b : Bool) → _≡_ {A = ℕ} (pick b 0 0) 0
+either-zero true = refl
+either-zero false = refl
+
+gave-none : (s : Stage) (r : Run) (e : Later) → elapsed (r ▸ e) ≡ 0 → gave phaseAt s (r ▸ e) ≡ 0
+unfolding gave unitsOf
+gave-none s r e z = rw (z, no-units (regulatedOf (sampleOf r))) (either-zero (counted s r))
+
+time-kept : (s : Stage) (r : Run) (e : Later) → wasReset (r ▸ e) ≡ false → elapsed (r ▸ e) ≡ 0 → timeIn phaseAt s r ≡ timeFound phaseAt s (r ▸ e)
+unfolding timeFound
+time-kept s r e n z = rw (n, gave-none s r e z) (sym (add-zero (timeIn phaseAt s r)))
+
+done-kept : (r : Run) (e : Later) → wasReset (r ▸ e) ≡ false → isDone phaseAt r ≡ wasDone phaseAt (r ▸ e)
+unfolding wasDone
+done-kept r e n = rw n
+
+cycle-kept : (r : Run) (e : Later) → wasReset (r ▸ e) ≡ false → elapsed (r ▸ e) ≡ 0 → cycleAt phaseAt r ≡ cycleFound (r ▸ e)
+unfolding cycleAt
+cycle-kept r e n z = λ i. record {
+  trickle = time-kept trickle r e n z i;
+  precharge = time-kept precharge r e n z i;
+  fast = time-kept fast r e n z i;
+  done = done-kept r e n i;
+}
+
+-- an observation's time goes to the stage held before it
+cycle-timed : (r : Run) (x : Sample)
+    → timesOf (profileOf r) (phaseAt r) (clock.unitsOf (sampleOf r) (elapsedOf (sampleOf r .stamp) (x .stamp))) (cycleAt phaseAt r) ≡ cycleFound (r ▸ observe x)
+unfolding timesOf clock.unitsOf unitsOf cycleAt timeFound gave elapsed wasReset wasDone
+cycle-timed r x = λ i. record {
+  trickle = added (counted trickle r) (timeIn phaseAt trickle r) (unitsOf (sampleOf r) (elapsed (r ▸ observe x))) i;
+  precharge = added (counted precharge r) (timeIn phaseAt precharge r) (unitsOf (sampleOf r) (elapsed (r ▸ observe x))) i;
+  fast = added (counted fast r) (timeIn phaseAt fast r) (unitsOf (sampleOf r) (elapsed (r ▸ observe x))) i;
+  done = isDone phaseAt r;
+}
+
+expires-is : (r : Run) (x : Sample)
+    → (not (expiredOf (profileOf r) (watchdogAt r)) && expiredOf (profileOf r) (countedOf (profileOf r) (watchdogAt r) (elapsedOf (sampleOf r .stamp) (x .stamp))))
+    ≡ (not (expired r) && expired (r ▸ observe x))
+unfolding profileOf
+expires-is r x = λ i. not (expired-is r i) && (ap (expiredOf (profileOf r)) (counted-is r x) ∙ expired-is (r ▸ observe x)) i
+
+pub written-is : (r : Run) (e : Later) → writtenBy (stateOf r) e ≡ found r e
+unfolding found stateBy settingsAt registersAt byteOf cellsOf overridden sampleOf writtenTo observedOf resetOf wasReset wasServed elapsed timeFound wasDone
+written-is r (set n v) =
+    λ i. changed r (store-is (λ k. settingOf k r) n v i) (registersAt r) (cycle-kept r (set n v) refl refl i) (waits r (set n v) refl refl i) (sampleOf r)
+written-is r (write a b) =
+    λ i. changed r (count-is (λ k. settingOf k r) (profileOf r) (b % 8) (takes r (cellsOf r) a b) i) (written-bytes r (stateOf r) refl a b i)
+    (cycle-kept r (write a b) refl refl i) (waits r (write a b) refl refl i) (sampleOf r)
+written-is r takeFlags =
+    λ i. changed r (settingsAt r) (registersAt r) (cycle-kept r takeFlags refl refl i) (waits r takeFlags refl refl i) (sampleOf r)
+written-is r (observe x) =
+    λ i. changed r (settingsAt r) ((ap (λ b. clearedIf b (registersAt r)) (expires-is r x) ∙ cleared-bytes r x) i) (cycle-timed r x i) (counted-is r x i) x
+written-is r service =
+    λ i. changed r (settingsAt r) (registersAt r) (cycle-kept r service refl refl i) (served-is r service refl i) (sampleOf r)
+written-is r reset =
+    λ i. changed r (start-is (profileOf r) (cellsOf r) i) (reset-bytes r (profileOf r) i) (cycleFound (r ▸ reset)) (served-is r reset refl i) (sampleOf r)

@@ -1,0 +1,17 @@
+-- The laws of the crate `laws_account`.
+pub mod Past
+mod Rule
+mod Choices
+mod Dogs
+mod Values
+mod Bytes
+mod Found
+mod Judging
+pub mod Settling
+mod Raising
+mod Starting
+mod Powering
+mod Stepping
+pub mod Agreeing
+pub mod Logging
+pub mod Sharing

@@ -1,0 +1,160 @@
+-- The state that a power-on makes is the account's of a run without later events.
+use Prim.Native.Nat.{ℕ, _*_, _-_, _<_, min}
+use native.Mathlib.Omega.{arith}
+use mathlib.Core.Path.{_≡_, refl, sym, ap, _∙_}
+use mathlib.Core.Bool.{Bool, true, false, not, _&&_, _||_}
+use Rattle.base.specs.Units.{inPack, below, belowShare}
+use Rattle.state_parts.specs.Edges.{noFlags, powerOnFlags}
+use Rattle.state_parts.specs.declared.band.Band.the-variants.{Normal}
+use Rattle.state_parts.specs.declared.phase.Phase.the-variants.{Idle}
+use Rattle.state_parts.specs.declared.profile.Profile.{Profile}
+use Rattle.state_parts.specs.declared.state.State.{State}
+use Rattle.state_start.specs.Values.{startSettings, startRegisters, startLatches, startCycle, startWatchdog, startSample, startOf}
+use Rattle.state_settings.specs.Numbered.{settingNumbers, heldOf}
+use Rattle.state_fields.specs.Rows.{fields, fieldsAt, resetByte}
+use Rattle.state_valid.specs.Holds.{profileOk}
+use Rattle.settle_bands.specs.Thresholds.{bandOf}
+use Rattle.settle_levels.specs.Clamps.{faultOf, packClampOf, baseOf}
+use Rattle.settle_levels.specs.Comparators.{shortReturnsAt, shortEndsAt, shortOf, lowOf, packOverOf, latchesOf}
+use Rattle.settle_permission.specs.Permission.{permittedOf}
+use Rattle.settle_phases.specs.Cycles.{cycleOf}
+use Rattle.settle_phases.specs.Order.{judgedOf, clearsOf, endsOf, phaseOf}
+use Rattle.settle_all.specs.Gather.{testsOf}
+use Rattle.settle_all.specs.Settle.{storedOf, forcedOf, settledOf, settleOf}
+use Rattle.step_kinds.specs.Finish.{withFlags}
+use Rattle.step_kinds.specs.Plain.{poweredOf}
+use Rattle.laws_account.specs.History.{Run, powered, since, sumAfter, count}
+use Rattle.laws_account.specs.Held.{profileOf, sampleOf, unserved, overridden, cellsOf, byteOf}
+use Rattle.laws_account.specs.Valued.{pinFault, startValue, settingOf}
+use Rattle.laws_account.specs.Judged.{vbat, packClamp, baseAt, lowEnds, inputOk, inputOver, inputGood, short, low, packOver, bandAt, permitted}
+use Rattle.laws_account.specs.Cycles.{isDone, timeIn, phaseBy, phasesOf, phaseAt}
+use Rattle.laws_account.specs.Flagged.{wasTaken, flagged}
+use Rattle.laws_account.specs.States.{settingsAt, registersAt, latchesAt, watchdogAt, cycleAt, flagsAt, stateBy, stateOf}
+use Rattle.laws_account.proofs.Values.{start-is, force-is}
+use Rattle.laws_account.proofs.Judging.{fault-is}
+use Rattle.laws_account.proofs.Settling.{flaggedWith}
+use Rattle.laws_account.proofs.Starting.{below-short, below-any}
+
+-- VBAT_LOWV starts at 3
+low-pos : (p : Profile) → 0 < lowEnds (powered p) - 50
+unfolding settingOf startValue heldOf settingNumbers startSettings
+low-pos p = omega arith
+
+module _ (p : Profile) where
+  abbrev on : Run
+  on = powered p
+
+  registers-start : startRegisters p ≡ registersAt (powered p)
+  unfolding registersAt byteOf cellsOf overridden resetByte fieldsAt fields
+  registers-start = refl
+
+  settings-start : storedOf (faultOf p (startRegisters p)) (startSettings p (p .cell)) ≡ settingsAt (powered p)
+  unfolding settingsAt settingOf profileOf
+  settings-start =
+      ap (λ g. storedOf (faultOf p g) (startSettings p (p .cell))) registers-start
+      ∙ ap (λ b. storedOf b (startSettings p (p .cell))) (fault-is (powered p))
+      ∙ ap (storedOf (pinFault on)) (start-is p (p .cell))
+      ∙ force-is (startValue p (p .cell)) (pinFault on)
+
+  -- what settling goes on from
+  abbrev begun : State
+  begun = record {
+    profile = p;
+    settings = settingsAt (powered p);
+    registers = registersAt (powered p);
+    latches = startLatches;
+    cycle = startCycle;
+    watchdog = startWatchdog;
+    sample = startSample p;
+    phase = Idle;
+    band = Normal;
+    flags = noFlags;
+  }
+
+  forced-start : forcedOf (startOf p) ≡ begun
+  unfolding forcedOf startOf
+  forced-start = λ i. record {
+    profile = p;
+    settings = settings-start i;
+    registers = registers-start i;
+    latches = startLatches;
+    cycle = startCycle;
+    watchdog = startWatchdog;
+    sample = startSample p;
+    phase = Idle;
+    band = Normal;
+    flags = noFlags;
+  }
+
+  module _ (ok : profileOk p ≡ true) where
+    abbrev shortReturns : Bool
+    shortReturns = below (vbat on) (inPack (shortReturnsAt (p .cell)) (p .cell))
+
+    short-start : (fault stays : Bool) → pinFault on ≡ fault → (fault || (shortReturns || (true && stays))) ≡ true
+    short-start true stays h = refl
+    short-start false stays h = rw (below-short p ok h)
+
+    low-start : (fault stays : Bool) (share : ℕ) → 0 < share → pinFault on ≡ fault → (fault || (belowShare (vbat on) (baseAt on) share || (true && stays))) ≡ true
+    low-start true stays share s h = refl
+    low-start false stays share s h = rw (below-any p ok h share s)
+
+    over-start : (fault stays : Bool) → pinFault on ≡ fault → (not fault && (not (belowShare (vbat on) (baseAt on) 1040) || (false && stays))) ≡ false
+    over-start true stays h = refl
+    over-start false stays h = rw (below-any p ok h 1040 (omega arith))
+
+    latches-start : latchesOf p (settingsAt on) (registersAt on) (startSample p) startLatches ≡ latchesAt on
+    unfolding latchesOf latchesAt inputOk inputOver short low packOver since shortOf lowOf packOverOf baseOf packClampOf faultOf pinFault vbat baseAt packClamp settingsAt registersAt profileOf sampleOf cellsOf
+    latches-start = λ i. record {
+      inputok = false;
+      inputover = false;
+      short = short-start (pinFault on) (below (vbat on) (inPack (shortEndsAt (p .cell)) (p .cell))) refl i;
+      low = low-start (pinFault on) (belowShare (vbat on) (baseAt on) (lowEnds on)) (lowEnds on - 50) (low-pos p) refl i;
+      packover = over-start (pinFault on) (not (belowShare (vbat on) (baseAt on) 1020)) refl i;
+    }
+
+    phase-start : Idle ≡ phaseAt on
+    unfolding phaseAt phasesOf phaseBy count permitted inputGood inputOk since sampleOf
+    phase-start = refl
+
+    done-start : false ≡ isDone phaseAt on
+    unfolding isDone since
+    done-start = rw (sym phase-start)
+
+    zero-low : (top : ℕ) → 0 ≡ min 0 top
+    zero-low top = omega arith
+
+    settled-start : settledOf begun (latchesAt on) (bandAt on) (testsOf begun (latchesAt on) (bandAt on) false) ≡ flaggedWith on noFlags
+    unfolding settledOf testsOf cycleOf phaseOf judgedOf endsOf clearsOf permittedOf latchesAt inputOk since sampleOf profileOf cycleAt timeIn sumAfter watchdogAt unserved
+    settled-start = λ i. record {
+      profile = p;
+      settings = settingsAt on;
+      registers = registersAt on;
+      latches = latchesAt on;
+      cycle = record { trickle = 0; precharge = 0; fast = 0; done = done-start i };
+      watchdog = record { count = zero-low (p .watchdog * 1000) i };
+      sample = startSample p;
+      phase = phase-start i;
+      band = bandAt on;
+      flags = noFlags;
+    }
+
+    abbrev settledFrom : State → State
+    settledFrom f =
+        let k = latchesOf (f .profile) (f .settings) (f .registers) (f .sample) (f .latches) in
+        let b = bandOf (f .registers) (f .sample .ts) in
+        settledOf f k b (testsOf f k b false)
+
+    band-start : bandOf (registersAt on) 55000 ≡ bandAt on
+    unfolding bandOf registersAt bandAt sampleOf
+    band-start = refl
+
+    settle-start : settleOf (startOf p) false ≡ flaggedWith on noFlags
+    unfolding settleOf
+    settle-start =
+        ap settledFrom forced-start
+        ∙ (λ i. settledOf begun (latches-start i) (band-start i) (testsOf begun (latches-start i) (band-start i) false))
+        ∙ settled-start
+
+    pub powered-is : poweredOf p ≡ stateOf (powered p)
+    unfolding poweredOf withFlags stateBy flagsAt flagged since wasTaken
+    powered-is = ap (λ s. withFlags s powerOnFlags) settle-start

@@ -1,0 +1,84 @@
+-- At power-on, where no pin has a fault, a pack of no volts is below every point.
+use Prim.Native.Nat.{ℕ, zero, suc, _*_, _%_, _<_, _≤_}
+use native.Mathlib.Omega.{arith}
+use native.Mathlib.Nat.{mul-pos}
+use mathlib.Core.Path.{_≡_, refl}
+use mathlib.Core.Bool.{Bool, true, false, _&&_, _||_, true≢false}
+use mathlib.Core.List.{[], _∷_}
+use lib.Dec.{leb, ltb, eqb, ltb→lt}
+use borrow.Author.Tests.{lt-ltb, ne-eqb}
+use Rattle.base.specs.Pick.{pick}
+use Rattle.base.specs.Units.{inPack, below, belowShare}
+use Rattle.base.specs.Volts.{packOf}
+use Rattle.base.specs.declared.units.CellMv.{CellMv}
+use Rattle.base.specs.declared.units.PackMv.{PackMv}
+use Rattle.base.proofs.Table.{at}
+use Rattle.base.proofs.Tests.{leb-iff, and-iff}
+use Rattle.state_parts.specs.Pins.{vchgOf}
+use Rattle.state_parts.specs.declared.profile.Profile.{Profile}
+use Rattle.state_start.specs.Values.{startVreg, startSettings}
+use Rattle.state_settings.specs.Numbered.{settingNumbers, heldOf}
+use Rattle.state_valid.specs.Holds.{profileOk}
+use Rattle.settle_levels.specs.Comparators.{shortReturnsAt}
+use Rattle.laws_account.specs.History.{powered}
+use Rattle.laws_account.specs.Held.{profileOf, sampleOf, overridden, cellsOf}
+use Rattle.laws_account.specs.Valued.{pinFault, startValue, settingOf}
+use Rattle.laws_account.specs.Judged.{vbat, packClamp, baseAt}
+
+nonzero : (n : ℕ) → eqb n 0 ≡ false → 0 < n
+nonzero zero h = absurd (true≢false h)
+nonzero (suc n) h = omega arith
+
+pos-pick : (t : Bool) (a b : PackMv) → 0 < a .0 → 0 < b .0 → 0 < pick t a b .0
+pos-pick true a b h k = h
+pos-pick false a b h k = k
+
+pos-cell : (t : Bool) (a b : CellMv) → 0 < a .0 → 0 < b .0 → 0 < pick t a b .0
+pos-cell true a b h k = h
+pos-cell false a b h k = k
+
+pos-pack : (each : CellMv) (cells : ℕ) → 0 < each .0 → 0 < cells → 0 < inPack each cells .0
+unfolding inPack
+pos-pack each cells h k = omega (arith, mul-pos h k)
+
+vchg-max : (p : Profile) → profileOk p ≡ true → p .vchg ≤ 7
+unfolding profileOk
+vchg-max p e = let k = simp (and-iff, leb-iff) at e in omega arith
+
+-- a code that is no fault has a voltage
+pos-vchg : (p : Profile) → p .vchg ≤ 7 → 0 < p .vchg → 0 < vchgOf p .0
+pos-vchg p h k =
+    let z : eqb (p .vchg % 8) 0 ≡ false = ne-eqb (p .vchg % 8) 0 (λ e. omega arith) in
+    ltb→lt 0 _ (rw z at (at (λ (i x : ℕ). eqb i 0 || ltb 0 x) (0 ∷ 3500 ∷ 3600 ∷ 4000 ∷ 4100 ∷ 4200 ∷ 4300 ∷ 4350 ∷ []) tt (p .vchg % 8) (omega arith)))
+
+clear-pins : (a b c : Bool) → ((a || (b && true)) || (c && true)) ≡ false → (a ≡ false) × (b ≡ false)
+clear-pins true b c h = absurd (true≢false h)
+clear-pins false true c h = absurd (true≢false h)
+clear-pins false false c h = (refl, refl)
+
+module _ (p : Profile) (ok : profileOk p ≡ true) (sound : pinFault (powered p) ≡ false) where
+  pins : (eqb (p .cell) 0 ≡ false) × (eqb (p .vchg) 0 ≡ false)
+  unfolding pinFault cellsOf overridden profileOf
+  pins = clear-pins (eqb (p .cell) 0) (eqb (p .vchg) 0) (eqb (p .ichg) 0) sound
+
+  cells-pos : 0 < p .cell
+  cells-pos = nonzero (p .cell) (pins .0)
+
+  vchg-pos : 0 < vchgOf p .0
+  vchg-pos = pos-vchg p (vchg-max p ok) (nonzero (p .vchg) (pins .1))
+
+  base-pos : 0 < baseAt (powered p) .0
+  unfolding baseAt settingOf startValue heldOf settingNumbers startSettings startVreg packClamp overridden cellsOf profileOf
+  base-pos =
+      pos-pick (leb (startVreg p (p .cell) .0) (inPack (vchgOf p) (p .cell) .0)) (startVreg p (p .cell)) (inPack (vchgOf p) (p .cell))
+      (pos-pick (eqb (p .vchg) 0 || eqb (p .cell) 0) (packOf 2400) (inPack (vchgOf p) (p .cell)) (omega arith) (pos-pack (vchgOf p) (p .cell) vchg-pos cells-pos))
+      (pos-pack (vchgOf p) (p .cell) vchg-pos cells-pos)
+
+  pub below-short : below (vbat (powered p)) (inPack (shortReturnsAt (p .cell)) (p .cell)) ≡ true
+  unfolding vbat sampleOf
+  below-short =
+      lt-ltb 0 _ (pos-pack (shortReturnsAt (p .cell)) (p .cell) (pos-cell (leb (p .cell) 2) (record { 0 = 1850 }) (record { 0 = 2000 }) (omega arith) (omega arith)) cells-pos)
+
+  pub below-any : (share : ℕ) → 0 < share → belowShare (vbat (powered p)) (baseAt (powered p)) share ≡ true
+  unfolding belowShare vbat sampleOf
+  below-any share h = lt-ltb 0 (baseAt (powered p) .0 * share) (mul-pos base-pos h)

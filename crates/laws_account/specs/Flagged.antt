@@ -1,0 +1,108 @@
+-- The account, the flags: which edges an event brings, and which flags are held after a run.
+use Prim.Native.Nat.{ℕ}
+use mathlib.Core.Bool.{Bool, true, false, not, _&&_, _||_}
+use lib.Dec.{eqb}
+use Rattle.state_parts.specs.Edges.{pulseOf}
+use Rattle.state_parts.specs.Numbers.{phaseNumber, bandNumber}
+use Rattle.state_parts.specs.declared.flags.Flags.{Flags}
+use Rattle.state_parts.specs.declared.phase.Phase.{Phase}
+use Rattle.settle_permission.specs.Bits.{iindpmOf, vindpmOf, thermalOf, shutdownOf}
+use Rattle.laws_account.specs.History.{Run, powered, _▸_, set, write, takeFlags, observe, service, reset, since}
+use Rattle.laws_account.specs.Held.{sampleOf, expired}
+use Rattle.laws_account.specs.Valued.{settingOf}
+use Rattle.laws_account.specs.Judged.{inputGood, inputOver, packOver, bandAt}
+use Rattle.laws_account.specs.Cycles.{limitReached}
+
+-- the twelve flags, bit 0 to bit 11
+pub data Flag : Type 0 where
+  good lost iindpm vindpm thermal expiry phase band inputover shutdown packover limit : Flag
+
+abbrev pub placeOf : Flag → ℕ
+placeOf good = 0
+placeOf lost = 1
+placeOf iindpm = 2
+placeOf vindpm = 3
+placeOf thermal = 4
+placeOf expiry = 5
+placeOf phase = 6
+placeOf band = 7
+placeOf inputover = 8
+placeOf shutdown = 9
+placeOf packover = 10
+placeOf limit = 11
+
+-- the flags, each by its test
+abbrev pub flagsBy : (Flag → Bool) → Flags
+flagsBy test = record {
+  good = test good;
+  lost = test lost;
+  iindpm = test iindpm;
+  vindpm = test vindpm;
+  thermal = test thermal;
+  expired = test expiry;
+  phase = test phase;
+  band = test band;
+  inputover = test inputover;
+  shutdown = test shutdown;
+  packover = test packover;
+  limit = test limit;
+}
+
+-- "Flags, on an edge between the state before the event and the state after settling": two moments, one event apart
+abbrev pub begins : (Run → Bool) → Run → Bool
+begins q (powered p) = false
+begins q (r ▸ e) = not (q r) && q (r ▸ e)
+
+abbrev pub ends : (Run → Bool) → Run → Bool
+ends q (powered p) = false
+ends q (r ▸ e) = not (q (r ▸ e)) && q r
+
+abbrev pub changes : (Run → ℕ) → Run → Bool
+changes f (powered p) = false
+changes f (r ▸ e) = not (eqb (f r) (f (r ▸ e)))
+
+-- "hands back the held flags and clears them"
+unfoldable pub wasTaken : Run → Bool
+wasTaken (powered p) = false
+wasTaken (r ▸ set number value) = false
+wasTaken (r ▸ write address byte) = false
+wasTaken (r ▸ takeFlags) = true
+wasTaken (r ▸ observe x) = false
+wasTaken (r ▸ service) = false
+wasTaken (r ▸ reset) = false
+
+module _ (P : Run → Phase) where
+  -- "bit 0 input good, 1 input lost, 2-4 IINDPM, VINDPM, thermal regulation begin, 5 watchdog expired, 6 phase changed, 7 band changed, 8 VIN over, 9 thermal shutdown,
+  -- 10 battery over, 11 a first limit reached."
+  unfoldable pub edge : Flag → Run → Bool
+  edge good = begins inputGood
+  edge lost = ends inputGood
+  edge iindpm = begins (λ m. iindpmOf (sampleOf m))
+  edge vindpm = begins (λ m. vindpmOf (sampleOf m))
+  edge thermal = begins (λ m. thermalOf (sampleOf m))
+  edge expiry = begins expired
+  edge phase = changes (λ m. phaseNumber (P m))
+  edge band = changes (λ m. bandNumber (bandAt m))
+  edge inputover = begins inputOver
+  edge shutdown = begins (λ m. shutdownOf (sampleOf m))
+  edge packover = begins packOver
+  edge limit = begins (limitReached P)
+
+  -- "Power-on sets flags to 32": bit 5
+  abbrev pub raised : Flag → Run → Bool
+  raised k (powered p) = eqb (placeOf k) 5
+  raised k (r ▸ e) = edge k (r ▸ e)
+
+  -- a flag is held from its edge on until the flags are taken, those of that event too
+  unfoldable pub flagged : Flag → Run → Bool
+  flagged k = since (λ m. not (wasTaken m)) (λ m. not (wasTaken m) && raised k m)
+
+  -- "take flags | none; hands back the held flags and clears them"; no other event hands any back
+  unfoldable pub handedBack : Flag → Run → Bool
+  handedBack k (powered p) = false
+  handedBack k (r ▸ e) = wasTaken (r ▸ e) && (flagged k r || edge k (r ▸ e))
+
+  -- "One pulse per event with an unmasked edge, by the masks after it." "Power-on sets flags to 32 and pulses."
+  unfoldable pub pulsed : Run → Bool
+  pulsed (powered p) = true
+  pulsed (r ▸ e) = pulseOf (flagsBy (λ k. edge k (r ▸ e))) (settingOf 14 (r ▸ e))

@@ -1,0 +1,60 @@
+-- The account, refusals: with what number an event is refused after a run, 0 where it is accepted; and the history that a list of events leaves.
+use Prim.Native.Nat.{ℕ}
+use mathlib.Core.Path.{_≡_}
+use mathlib.Core.Bool.{true, not, _&&_}
+use mathlib.Core.List.{List, [], _∷_}
+use lib.Dec.{leb, ltb, eqb}
+use Rattle.base.specs.Pick.{pick}
+use Rattle.state_fields.specs.Rows.{frequencyOk}
+use Rattle.state_settings.specs.Ranges.{knownSetting, mayHold}
+use Rattle.state_valid.specs.Holds.{profileOk, sampleOk}
+use Rattle.log_event.specs.declared.Event.{Event}
+use Rattle.laws_account.specs.History.{Later, set, write, takeFlags, observe, service, reset, Turn, opens, follows, turnOf, Run, powered, _▸_}
+use Rattle.laws_account.specs.Held.{elapsed}
+
+-- "Model order: 6, 10, 5, 11 for writes; 6, 8, 9 for sets; 6, 5, 7 for observations."
+unfoldable pub refusalIn : Run → Later → ℕ
+-- 8: "setting number not 1-14"; 9: "setting value outside its range or off its step"
+refusalIn r (set number value) = pick (not (knownSetting number)) 8 (pick (not (mayHold number value)) 9 0)
+-- 10: "address not 0x15-0x1C"; 5: "a number outside kind 1, 3 or 5's ranges"; 11: "FSW (0x16 bits 2:0) written 0 or 7"
+refusalIn r (write address byte) =
+    pick (not (leb 0x15 address && leb address 0x1C)) 10
+    (pick (not (leb byte 255)) 5
+    (pick (eqb address 0x16 && not (frequencyOk byte)) 11 0))
+refusalIn r takeFlags = 0
+-- 5; 7: "stamp more than 3,600,000 ms ahead"
+refusalIn r (observe x) = pick (not (sampleOk x)) 5 (pick (ltb 3600000 (elapsed (r ▸ observe x))) 7 0)
+refusalIn r service = 0
+refusalIn r reset = 0
+
+-- a run of accepted events since an accepted power-on
+abbrev pub Accepted : Run → Type 0
+Accepted (powered p) = profileOk p ≡ true
+Accepted (r ▸ e) = Accepted r × (refusalIn r e ≡ 0)
+
+-- what has come before: no accepted power-on yet, or the accepted events since the latest one
+pub data Past : Type 0 where
+  none : Past
+  some : Run → Past
+
+abbrev pub refusalBy : Past → Turn → ℕ
+refusalBy h (opens p) = pick (profileOk p) 0 5
+-- 6: "any kind but a power-on's, before a power-on"
+refusalBy none (follows e) = 6
+refusalBy (some r) (follows e) = refusalIn r e
+
+unfoldable pub refusalOf : Past → Event → ℕ
+refusalOf h e = refusalBy h (turnOf e)
+
+-- an accepted power-on begins a new run, and a refused event leaves what has come before
+abbrev pub nextBy : Past → Turn → Past
+nextBy h (opens p) = pick (profileOk p) (some (powered p)) h
+nextBy none (follows e) = none
+nextBy (some r) (follows e) = some (pick (eqb (refusalIn r e) 0) (r ▸ e) r)
+
+unfoldable pub nextOf : Past → Event → Past
+nextOf h e = nextBy h (turnOf e)
+
+unfoldable pub pastOf : Past → List Event → Past
+pastOf h [] = h
+pastOf h (e ∷ es) = pastOf (nextOf h e) es

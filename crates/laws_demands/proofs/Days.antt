@@ -1,0 +1,63 @@
+-- A few runs at which wrong products and this one come to different numbers.
+use Prim.Native.Nat.{ℕ, zero, suc}
+use mathlib.Core.Path.{_≡_, sym, _∙_}
+use mathlib.Core.Bool.{false, false≢true}
+use mathlib.Core.List.{[], _∷_}
+use native.Mathlib.Omega.{arith}
+use lib.IntN.{pos}
+use lib.Dec.{eqb}
+use borrow.Author.Tests.{eq-eqb}
+use Rattle.state_parts.specs.declared.profile.Profile.{Profile}
+use Rattle.state_parts.specs.declared.sample.Sample.{Sample}
+use Rattle.state_parts.specs.declared.state.State.{State}
+use Rattle.state_parts.specs.declared.state.Model.{Model}
+use Rattle.state_parts.specs.declared.state.Model.the-variants.{Off, On}
+use Rattle.log_number.specs.Promises.{Bytes}
+use Rattle.laws_account.specs.History.{Run, powered, _▸_, observe}
+
+-- the paper's power-on, with a fast limit of so many seconds
+abbrev pub limited : ℕ → Profile
+limited fast = record { cell = 2; vchg = 5; ichg = 4; ohms = 0; stamp = 0; ceiling = 4500; trickle = 3600; precharge = 7200; fast = fast; watchdog = 0 }
+
+abbrev pub paper : Profile
+paper = limited 36000
+
+-- a sample by stamp, VBAT and TS, with the paper's VIN
+abbrev pub seen : ℕ → ℕ → ℕ → Sample
+seen stamp pack ts = record { stamp = stamp; input = 12000; pack = pack; ibat = pos 0; ts = ts; bits = 0 }
+
+-- the paper's log
+abbrev pub sampled : Sample
+sampled = seen 1000 7600 55000
+
+abbrev pub first : Run
+first = powered paper ▸ observe sampled
+
+-- in precharge, cool
+abbrev pub cool : Run
+cool = powered paper ▸ observe (seen 1000 5000 70000)
+
+-- a second in fast charge, which is its limit, in two samples
+abbrev pub second : Run
+second = powered (limited 1) ▸ observe (seen 0 7600 55000) ▸ observe (seen 500 7600 55000) ▸ observe sampled
+
+-- with no limit for fast charge
+abbrev pub unlimited : Run
+unlimited = powered (limited 0) ▸ observe sampled
+
+-- a number of a model's state
+abbrev pub held : (State → ℕ) → Model → ℕ
+held f Off = 0
+held f (On s) = f s
+
+-- two numbers that differ
+pub differ : (a b : ℕ) → eqb a b ≡ false → a ≡ b → ⊥
+differ a b other same = false≢true (sym other ∙ eq-eqb a b same)
+
+-- a log of no byte, and one of a single record that takes the flags
+pub no-byte : Bytes []
+no-byte i = omega arith
+
+pub one-byte : Bytes (4 ∷ [])
+one-byte zero = omega arith
+one-byte (suc i) = omega arith

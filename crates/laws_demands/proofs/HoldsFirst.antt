@@ -1,0 +1,39 @@
+-- Demand 1 holds of this product.
+use Prim.Native.Nat.{ℕ}
+use mathlib.Core.Path.{_≡_, refl, _∙_}
+use mathlib.Core.Bool.{Bool, true, false}
+use mathlib.Core.List.{List, _++_}
+use native.Mathlib.Omega.{arith}
+use lib.ListN.{length, drop, length-append, length-drop}
+use lib.Seq.{drop-append-seam}
+use lib.Dec.{leb}
+use borrow.Author.Tests.{leb-true}
+use Rattle.base.specs.Pick.{pick}
+use Rattle.base.specs.Found.{refused}
+use Rattle.base.specs.Writing.{wrote, put, written}
+use Rattle.base.specs.Writing as answer
+use Rattle.log_event.specs.Items.{number}
+use Rattle.log_record.specs.Records.{spellEvent}
+use Rattle.step_event.proofs.Keeps.{refused-leaves}
+use Rattle.laws_step.proofs.Given.{number-known}
+use Rattle.laws_demands.specs.First.{WrittenIn}
+use Rattle.laws_demands.specs.First as told
+use Rattle.laws_demands.specs.Ours.{FirstHolds}
+use Rattle.laws_demands.proofs.Reading.{reads}
+
+puts : (bytes buffer : List ℕ) → WrittenIn buffer (written bytes buffer, put bytes buffer)
+unfolding written put
+puts bytes buffer = by (leb (length bytes) (length buffer)) refl
+  where
+    by : (t : Bool) → leb (length bytes) (length buffer) ≡ t → WrittenIn buffer (pick t (wrote (length bytes)) (answer.refused 12 0), pick t (bytes ++ drop (length bytes) buffer) buffer)
+    by true fits =
+        let room = leb-true (length bytes) (length buffer) fits in
+        told.written (length bytes) (bytes ++ drop (length bytes) buffer) room (length-append bytes (drop (length bytes) buffer) ∙ omega (arith, length-drop (length bytes) buffer)) (drop-append-seam bytes (drop (length bytes) buffer))
+    by false short = told.no-room
+
+pub first-holds : FirstHolds
+first-holds = record {
+  steps = λ m e. record { number = number-known m e; refused = refused-leaves m e };
+  reads = reads;
+  writes = λ e buffer. puts (spellEvent e) buffer;
+}

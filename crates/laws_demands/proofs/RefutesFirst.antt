@@ -1,0 +1,65 @@
+-- Three wrong products break demand 1.
+use Prim.Native.Nat.{ℕ, _≤_}
+use mathlib.Core.Path.{_≡_, refl, ap}
+use mathlib.Core.List.{List, [], _∷_}
+use native.Mathlib.Omega.{arith}
+use lib.ListN.{length, getD}
+use Rattle.base.specs.Writing as answer
+use Rattle.log_record.specs.Records as log
+use Rattle.base.specs.Writing.{written}
+use Rattle.base.specs.Units.{inPack, belowShare}
+use Rattle.state_parts.specs.declared.state.Model.the-variants.{On}
+use Rattle.state_parts.specs.Edges.{merged, pulseOf}
+use Rattle.log_number.specs.Number.{spell, groups}
+use Rattle.log_event.specs.declared.Event.the-variants.{Set}
+use Rattle.log_record.specs.Items.{spellItems}
+use Rattle.log_record.specs.Records.{spellEvent}
+use Rattle.state_start.specs.Values.{startOf, startSettings, startVreg, startIchg, startVsysmin}
+use Rattle.state_settings.specs.Kept.{settingsOk}
+use Rattle.state_settings.specs.Numbered.{storeOf, heldOf, settingNumbers}
+use Rattle.state_settings.specs.Ranges.{mayHold, rangeOf, ranges}
+use Rattle.state_valid.specs.Holds.{stateOk, profileOk, registersOk, cycleOk, watchdogOk, sampleOk}
+use Rattle.state_fields.specs.Rows.{shownOf, fieldsAt, takenOf, fields}
+use Rattle.state_registers.specs.Reads.{byteAt}
+use Rattle.state_registers.specs.Resets.{resetOf, restored}
+use Rattle.state_registers.specs.Writes.{writeOf, writtenTo, recounted, placed}
+use Rattle.settle_levels.specs.Clamps.{faultOf, baseOf, packClampOf}
+use Rattle.settle_levels.specs.Comparators.{latchesOf, shortOf, lowOf, packOverOf}
+use Rattle.settle_levels.specs.Voltage.{belowRecharge, taperOf, chargeVoltageOf}
+use Rattle.settle_permission.specs.Bits.{regulatedOf}
+use Rattle.settle_permission.specs.Ending.{endingOf}
+use Rattle.settle_permission.specs.Limits.{reachedOf}
+use Rattle.settle_permission.specs.Permission.{permittedOf}
+use Rattle.settle_bands.specs.Effect.{suspendsOf, cutOf}
+use Rattle.settle_bands.specs.Thresholds.{bandOf}
+use Rattle.settle_phases.specs.Cycles.{cycleOf}
+use Rattle.settle_phases.specs.Order.{phaseOf, clearsOf, endsOf, judgedOf, restartsOf}
+use Rattle.settle_all.specs.Gather.{testsOf}
+use Rattle.settle_all.specs.Settle.{settleOf, forcedOf, settledOf}
+use Rattle.step_flags.specs.Edges.{edgesOf, seenOf, expiresOf, phaseChanges, bandChanges, reachesOf}
+use Rattle.step_flags.specs.Expiry.{expiredOf}
+use Rattle.step_kinds.specs.Finish.{withFlags, finishOf}
+use Rattle.step_kinds.specs.Plain.{poweredOf, powerOnOf, setOf, writeEventOf, takeFlagsOf, serviceOf, resetEventOf}
+use Rattle.step_event.specs.Clock.{observedOf, countedOf, clearedIf, timesOf, unitsOf}
+use Rattle.step_event.specs.Steps.{stepOf, firstOf, movedOf, observeOf}
+use Rattle.laws_demands.specs.First.{ReadAt, end, WrittenIn, no-room}
+use Rattle.laws_demands.specs.Refuted.{FirstRefuted}
+use Rattle.laws_demands.proofs.Days.{paper, held, differ, one-byte}
+use Rattle.laws_demands.specs.Wrong.{forgets, stopsAlways, spills}
+
+-- the end isn't answered within a log
+ends-late : (bytes : List ℕ) → ReadAt bytes 0 log.end → length bytes ≤ 0
+ends-late bytes (end late) = late
+
+-- what a refused write leaves is what stood there
+stays : (buffer after : List ℕ) (n place : ℕ) → WrittenIn buffer (answer.refused n place, after) → after ≡ buffer
+stays buffer after n place no-room = refl
+
+pub first-refuted : FirstRefuted
+unfolding forgets stopsAlways spills poweredOf stepOf written spellEvent withFlags settleOf startOf firstOf stateOk movedOf spellItems forcedOf latchesOf bandOf settledOf testsOf startSettings powerOnOf profileOk settingsOk registersOk cycleOk watchdogOk sampleOk setOf writeEventOf takeFlagsOf observeOf serviceOf resetEventOf faultOf baseOf shortOf lowOf packOverOf cycleOf phaseOf permittedOf suspendsOf belowRecharge taperOf chargeVoltageOf endingOf startVreg startIchg startVsysmin mayHold finishOf storeOf writeOf observedOf resetOf spell packClampOf inPack belowShare clearsOf endsOf judgedOf reachedOf cutOf regulatedOf heldOf shownOf rangeOf edgesOf merged pulseOf writtenTo countedOf expiredOf clearedIf timesOf unitsOf restored groups restartsOf settingNumbers fieldsAt ranges seenOf expiresOf phaseChanges bandChanges reachesOf recounted placed takenOf byteAt fields
+first-refuted = record {
+  forgotten = λ read write d.
+      differ 0 1 refl (ap (held (λ s. 1)) (d .steps (On (poweredOf paper)) (Set 15 0) .refused (λ z. omega arith) .model));
+  stopped = λ step write d. let z = ends-late (4 ∷ []) (d .reads (4 ∷ []) one-byte 0) in absurd (omega arith);
+  spilt = λ step read d. differ 2 0 refl (ap (λ l. getD l 0 0) (stays (0 ∷ []) (2 ∷ []) 12 0 (d .writes (Set 1 1) (0 ∷ []))));
+}

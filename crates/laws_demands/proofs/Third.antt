@@ -1,0 +1,131 @@
+-- Demand 3, proved of the step and the report: of the account's state after every run of accepted events, and so of the model's.
+use Prim.Native.Nat.{ℕ, _*_, _≤_, _<_}
+use native.Mathlib.Omega.{arith}
+use mathlib.Core.Path.{_≡_, refl, sym, ap, _∙_, subst}
+use mathlib.Core.Logic.{inr}
+use mathlib.Core.Bool.{Bool, true, false}
+use Rattle.base.specs.Pick.{pick}
+use Rattle.state_parts.specs.Pins.{ichgOf}
+use Rattle.state_parts.specs.declared.profile.Profile.{Profile}
+use Rattle.settle_phases.specs.Order.{charging}
+use Rattle.report_state.specs.Report.{currentIn, reportOf}
+use Rattle.step_event.specs.Steps.{stepOf}
+use Rattle.laws_account.specs.History.{Later, asEvent, Run, powered, _▸_}
+use Rattle.laws_account.specs.Held.{profileOf, ichg, overridden}
+use Rattle.laws_account.specs.Valued.{settingOf}
+use Rattle.laws_account.specs.Judged.{chargeClamp, bandAt, shareIn, short, low, tapering}
+use Rattle.laws_account.specs.Cycles.{phaseAt}
+use Rattle.laws_account.specs.Refused.{Accepted}
+use Rattle.laws_account.specs.States.{stateOf, modelOf}
+use Rattle.laws_account.specs.Runs.{runOf, Lawful}
+use Rattle.laws_account.proofs.Past.{phase-keeps-rule}
+use Rattle.laws_account.proofs.Agreeing.{account-is-model}
+use Rattle.laws_account.proofs.Logging.{every-log}
+use Rattle.laws_demands.specs.Crossed.{Short, Low}
+use Rattle.laws_demands.specs.Demand.{Charging, Bounded, Third, ranBy, ThirdDemand, ThirdOfLogs}
+use Rattle.laws_demands.proofs.Crossings.{short-means, low-means}
+use Rattle.laws_demands.proofs.Charges.{stage-is}
+use Rattle.laws_demands.proofs.Charging.{charging-means}
+use Rattle.laws_demands.proofs.Amounts.{ichg-least, iprechg-least, clamp-least, share-least, share-most, some-share, share-below, share-of-each}
+use Rattle.laws_account.specs.Reported.{fastAt}
+use Rattle.laws_demands.proofs.Shows.{chargeAt, volts, current-is, volts-are, volts-most, only-charging, some-current, staged-current}
+
+not-true : (b : Bool) → (b ≡ true → ⊥) → b ≡ false
+not-true true h = absurd (h refl)
+not-true false h = refl
+
+module _ (r : Run) where
+  abbrev current : ℕ
+  current = reportOf (stateOf r) .current
+
+  held : Charging r → charging (phaseAt r) ≡ true
+  held c = charging-means r .test c
+
+  amounts : Charging r → current ≡ pick (short r) 100 (pick (low r) (settingOf 3 r) (fastAt r))
+  amounts c =
+      current-is r
+      ∙ ap (λ q. currentIn q (settingOf 3 r) (fastAt r)) (stage-is phaseAt phase-keeps-rule r (held c))
+      ∙ staged-current (short r) (low r) (tapering r) (settingOf 3 r) (fastAt r)
+
+  in-trickle : Charging r → Short r → current ≡ 100
+  in-trickle c s = amounts c ∙ ap (λ b. pick b 100 (pick (low r) (settingOf 3 r) (fastAt r))) (short-means r .test s)
+
+  unshort : Charging r → (Short r → ⊥) → current ≡ pick (low r) (settingOf 3 r) (fastAt r)
+  unshort c n =
+      amounts c ∙ ap (λ b. pick b 100 (pick (low r) (settingOf 3 r) (fastAt r))) (not-true (short r) (λ t. n (short-means r .fact t)))
+
+  in-precharge : Charging r → (Short r → ⊥) → Low r → current ≡ settingOf 3 r
+  in-precharge c n l = unshort c n ∙ ap (λ b. pick b (settingOf 3 r) (fastAt r)) (low-means r .test l)
+
+  else : Charging r → (Short r → ⊥) → (Low r → ⊥) → current ≡ fastAt r
+  else c n m = unshort c n ∙ ap (λ b. pick b (settingOf 3 r) (fastAt r)) (not-true (low r) (λ t. m (low-means r .fact t)))
+
+  clamp-is : overridden ichg r ≡ false → chargeClamp r ≡ ichgOf (profileOf r)
+  unfolding chargeClamp
+  clamp-is e = rw e
+
+  bounded : current ≡ fastAt r → Bounded r current
+  unfolding fastAt
+  bounded e =
+      let most = share-below (settingOf 2 r) (chargeClamp r) (shareIn (bandAt r) r) (share-most (bandAt r) r) in
+      let each = share-of-each (settingOf 2 r) (chargeClamp r) (shareIn (bandAt r) r) in
+      rw e
+      record {
+        setting = most .0;
+        clamp = λ o. subst (λ n. fastAt r ≤ n) (clamp-is o) (most .1);
+        settingShare = each .0;
+        clampShare = λ o. subst (λ n. fastAt r * 100 ≤ n * shareIn (bandAt r) r) (clamp-is o) (each .1);
+      }
+
+  above-zero : Accepted r → Charging r → 0 < current
+  unfolding fastAt
+  above-zero h c =
+      let fast : 0 < fastAt r =
+      some-share (settingOf 2 r) (chargeClamp r) (shareIn (bandAt r) r) (ichg-least r h)
+      (clamp-least r h (λ z. c .permitted .pinned (inr z))) (share-least (bandAt r) r (c .mild)) in
+      let pre : 0 < settingOf 3 r = omega (arith, iprechg-least r h) in
+      subst (λ n. 0 < n) (sym (current-is r)) (some-current (phaseAt r) (settingOf 3 r) (fastAt r) pre fast (held c))
+
+  charges-from : 0 < current → Charging r
+  charges-from h = charging-means r .fact (only-charging (phaseAt r) (settingOf 3 r) (fastAt r) (subst (λ n. 0 < n) (current-is r) h))
+
+  -- of the account's state
+  pub third-of : Accepted r → Third r (reportOf (stateOf r))
+  unfolding fastAt
+  third-of h =
+      let most : volts r ≤ chargeAt r = volts-most r (charging (phaseAt r)) refl in
+      record {
+        charges = (charges-from, above-zero h);
+        trickle = in-trickle;
+        precharge = in-precharge;
+        otherwise = λ c n m. bounded (else c n m);
+        amount = else;
+        setting = omega (arith, most);
+        clamped = omega (arith, most);
+        settingCut = omega (arith, most);
+        clampedCut = omega (arith, most);
+        voltage = λ c. volts-are r true (held c);
+        zero = λ n. volts-are r false (not-true (charging (phaseAt r)) (λ t. n (charging-means r .fact t)));
+      }
+
+ran-first : (p : Profile) → ranBy stepOf (powered p) ≡ runOf (powered p)
+unfolding ranBy runOf
+ran-first p = refl
+
+ran-next : (r : Run) (e : Later) → ranBy stepOf r ≡ runOf r → ranBy stepOf (r ▸ e) ≡ runOf (r ▸ e)
+unfolding ranBy runOf
+ran-next r e h = ap (λ m. stepOf m (asEvent e) .model) h
+
+ran-is : (r : Run) → ranBy stepOf r ≡ runOf r
+ran-is (powered p) = ran-first p
+ran-is (r ▸ e) = ran-next r e (ran-is r)
+
+-- of the step and the report
+pub third-demand : ThirdDemand stepOf reportOf
+third-demand r h = (stateOf r, ran-is r ∙ account-is-model r h, third-of r h)
+
+-- and of every log
+pub third-of-logs : ThirdOfLogs
+third-of-logs bytes r e =
+    let k = every-log bytes in
+    (stateOf r, k .model ∙ ap modelOf e, third-of r (subst Lawful e (k .lawful)))

@@ -1,0 +1,81 @@
+-- What is printed of a log, of any step, report and reader: "each record gives: number, kind, answer (0 or refusal), phase, current, voltage, input limit, pulse, flags" and
+-- "Last: `end`, records read, code (0 or 1-4), offset of the log's end or the unreadable record."
+use Prim.Native.Nat.{ℕ, zero, suc}
+use mathlib.Core.List.{List, [], _∷_}
+use lib.ListN.{length}
+use Rattle.base.specs.Pick.{bitOf}
+use Rattle.base.specs.Volts.{packOf, millivoltsOf}
+use Rattle.state_parts.specs.Edges.{flagsNumber, noFlags}
+use Rattle.state_parts.specs.Numbers.{phaseNumber}
+use Rattle.state_parts.specs.declared.flags.Flags.{Flags}
+use Rattle.state_parts.specs.declared.phase.Phase.the-variants.{Idle}
+use Rattle.state_parts.specs.declared.state.State.{State}
+use Rattle.state_parts.specs.declared.state.Model.{Model}
+use Rattle.state_parts.specs.declared.state.Model.the-variants.{Off, On}
+use Rattle.log_event.specs.Events.{kindOf}
+use Rattle.log_event.specs.Kinds.{kindByte}
+use Rattle.log_event.specs.declared.Event.{Event}
+use Rattle.log_record.specs.Records.{Met, met, refused, end}
+use Rattle.step_kinds.specs.Plain.{Outcome}
+use Rattle.report_state.specs.declared.answer.Report.{Report}
+use Rattle.report_state.specs.declared.line.Line.{Line}
+use Rattle.laws_demands.specs.First.{Step, Reader}
+
+abbrev pub Reporter : Type 0
+Reporter = State → Report
+
+-- "all else is the state held, zeros before power-on"
+abbrev pub reportIn : Reporter → Model → Report
+reportIn report Off = record { phase = Idle; current = 0; voltage = packOf 0; limit = 0 }
+reportIn report (On s) = report s
+
+abbrev pub flagsIn : Model → Flags
+flagsIn Off = noFlags
+flagsIn (On s) = s .flags
+
+-- "Report and flags are those after the record"
+unfoldable pub lineBy : Reporter → ℕ → Event → Outcome → Line
+lineBy report number e o =
+    let r = reportIn report (o .model) in
+    record {
+      number = number;
+      kind = kindByte (kindOf e);
+      answer = o .number;
+      phase = phaseNumber (r .phase);
+      current = r .current;
+      voltage = millivoltsOf (r .voltage);
+      limit = r .limit;
+      pulse = bitOf (o .pulse);
+      flags = flagsNumber (flagsIn (o .model));
+    }
+
+-- the lines of events on a model, numbered from the one after `number`: each event on the model that the one before it left, refused or not
+unfoldable pub linesBy : Step → Reporter → Model → ℕ → List Event → List Line
+linesBy step report m number [] = []
+linesBy step report m number (e ∷ es) = lineBy report (suc number) e (step m e) ∷ linesBy step report (step m e .model) (suc number) es
+
+-- a log as it was read: its events, a code, and where it ends or can't be read
+pub record Log : Type 0 where
+  pub events : List Event
+  pub code : ℕ
+  pub offset : ℕ
+
+abbrev pub readOn : ℕ → Met → (ℕ → Log) → Log
+readOn at (met e next) more = record { events = e ∷ more next .events; code = more next .code; offset = more next .offset }
+readOn at (refused number place) more = record { events = []; code = number; offset = place }
+readOn at end more = record { events = []; code = 0; offset = at }
+
+-- from a place on, at most so many records
+unfoldable pub logFrom : Reader → ℕ → List ℕ → ℕ → Log
+logFrom read zero bytes at = record { events = []; code = 0; offset = at }
+logFrom read (suc most) bytes at = readOn at (read bytes at) (λ next. logFrom read most bytes next)
+
+pub record Printed : Type 0 where
+  pub lines : List Line
+  pub last : List ℕ
+
+-- a whole log, on a model that is off: it has no more records than bytes
+unfoldable pub printedBy : Step → Reporter → Reader → List ℕ → Printed
+printedBy step report read bytes =
+    let log = logFrom read (suc (length bytes)) bytes 0 in
+    record { lines = linesBy step report Off 0 (log .events); last = length (log .events) ∷ log .code ∷ log .offset ∷ [] }

@@ -1,0 +1,108 @@
+-- 01, "Slips to exclude": each slip as this product with the slip in it.
+use Prim.Native.Nat.{ℕ, _*_, _/_, _%_}
+use mathlib.Core.Bool.{Bool, true, false, _&&_}
+use lib.Dec.{leb, eqb}
+use Rattle.base.specs.Pick.{pick}
+use Rattle.base.specs.Stamps.{elapsedOf}
+use Rattle.state_parts.specs.declared.band.Band.{Band}
+use Rattle.state_parts.specs.declared.band.Band.the-variants.{Normal, Cool}
+use Rattle.state_parts.specs.declared.registers.Registers.{Registers}
+use Rattle.state_parts.specs.declared.sample.Sample.{Sample}
+use Rattle.state_parts.specs.declared.state.State.{State}
+use Rattle.state_parts.specs.declared.state.Model.{Model}
+use Rattle.state_parts.specs.declared.state.Model.the-variants.{Off, On}
+use Rattle.log_event.specs.declared.Event.{Event}
+use Rattle.log_event.specs.declared.Event.the-variants.{PowerOn, Set, Write, TakeFlags, Observe, Service, Reset}
+use Rattle.settle_bands.specs.Thresholds.{th2Of, tsOff, jeitaOn, bandOf}
+use Rattle.settle_bands.specs.Effect.{shareOf}
+use Rattle.settle_all.specs.Gather.{testsOf}
+use Rattle.settle_all.specs.Settle.{settledOf, settleOf}
+use Rattle.report_state.specs.Report.{currentIn, fastCurrent, reportOf}
+use Rattle.step_kinds.specs.Finish.{finishOf}
+use Rattle.step_kinds.specs.Plain.{Outcome, acceptedAs}
+use Rattle.step_event.specs.Clock.{unitsOf, timesOf, observedOf}
+use Rattle.step_event.specs.Steps.{stepOf}
+use Rattle.laws_demands.specs.First.{Step}
+use Rattle.laws_demands.specs.Printed.{Reporter}
+use Rattle.laws_demands.specs.Wrong.{withModel, withCycle}
+
+-- "Using a CELL_PIN override from the same write": it is as the written byte has it before the byte is taken
+abbrev pub withOverride : Bool → Registers → Registers
+withOverride stands g = record {
+  r15 = g .r15;
+  r16 = g .r16;
+  r17 = g .r17;
+  r18 = g .r18;
+  r19 = g .r19;
+  r1a = g .r1a;
+  cells = g .cells;
+  vchgoverride = g .vchgoverride;
+  celloverride = stands;
+  ichgoverride = g .ichgoverride;
+}
+
+abbrev pub withRegisters : State → Registers → State
+withRegisters s g = record {
+  profile = s .profile;
+  settings = s .settings;
+  registers = g;
+  latches = s .latches;
+  cycle = s .cycle;
+  watchdog = s .watchdog;
+  sample = s .sample;
+  phase = s .phase;
+  band = s .band;
+  flags = s .flags;
+}
+
+abbrev pub asWritten : Event → State → State
+asWritten (PowerOn p) s = s
+asWritten (Set number value) s = s
+asWritten (Write address byte) s = pick (eqb address 0x1B) (withRegisters s (withOverride (eqb (byte / 64 % 2) 1) (s .registers))) s
+asWritten TakeFlags s = s
+asWritten (Observe x) s = s
+asWritten Service s = s
+asWritten Reset s = s
+
+unfoldable pub sameWrite : Step
+sameWrite Off e = stepOf Off e
+sameWrite (On s) e = stepOf (On (asWritten e s)) e
+
+-- "scaling precharge by ICHG's band share"
+unfoldable pub scalesPrecharge : Reporter
+scalesPrecharge s = record {
+  phase = s .phase;
+  current = currentIn (s .phase) (s .settings .iprechg * shareOf (s .registers) (s .band) / 100) (fastCurrent (s .profile) (s .settings) (s .registers) (s .band));
+  voltage = reportOf s .voltage;
+  limit = reportOf s .limit;
+}
+
+-- "charging time to the phase after the sample"
+abbrev pub chargedAfter : State → Sample → State
+chargedAfter s x =
+    let observed = observedOf s x in
+    withCycle observed (timesOf (s .profile) (settleOf observed true .phase) (unitsOf (s .sample) (elapsedOf (s .sample .stamp) (x .stamp))) (s .cycle))
+
+abbrev pub timedBy : State → Event → Outcome → Outcome
+timedBy s (PowerOn p) o = o
+timedBy s (Set number value) o = o
+timedBy s (Write address byte) o = o
+timedBy s TakeFlags o = o
+timedBy s (Observe x) o = pick (eqb (o .number) 0) (acceptedAs (finishOf s (chargedAfter s x) true)) o
+timedBy s Service o = o
+timedBy s Reset o = o
+
+unfoldable pub timesAfter : Step
+timesAfter Off e = stepOf Off e
+timesAfter (On s) e = timedBy s e (stepOf (On s) e)
+
+-- "judging cool before cold": what an event leaves is judged again by that band
+unfoldable pub coolFirst : Registers → ℕ → Band
+coolFirst g ts = pick (tsOff g) Normal (pick (jeitaOn g && leb (th2Of g) ts) Cool (bandOf g ts))
+
+abbrev pub judgedCool : Model → Model
+judgedCool Off = Off
+judgedCool (On s) = let b = coolFirst (s .registers) (s .sample .ts) in On (settledOf s (s .latches) b (testsOf s (s .latches) b false))
+
+unfoldable pub judgesCool : Step
+judgesCool m e = withModel (stepOf m e) (judgedCool (stepOf m e .model))

@@ -1,0 +1,108 @@
+-- What loads is a model that can be stored: its numbers are words of bytes.
+use Prim.Native.Nat.{ℕ, zero, suc, _/_, _%_, _^_, _<_}
+use mathlib.Core.Path.{_≡_, sym, subst}
+use mathlib.Core.Bool.{Bool, true, false}
+use mathlib.Core.List.{List, [], _∷_}
+use native.Mathlib.Omega.{arith}
+use lib.Dec.{eqb}
+use lib.ListN.{drop, getD}
+use Rattle.base.specs.Pick.{pick, bitOf}
+use Rattle.base.specs.Told.{accepted, refused}
+use Rattle.log_number.specs.Promises.{Bytes}
+use Rattle.state_parts.specs.declared.state.Model.{Model}
+use Rattle.state_parts.specs.declared.state.Model.the-variants.{Off, On}
+use Rattle.log_event.proofs.Remaking.{signs}
+use Rattle.log_record.proofs.ItemLaws.{bytes-drop}
+use Rattle.c_words.specs.Words.{bytesOf, wordAt, wordsIn}
+use Rattle.c_words.specs.Promises.{AllWords}
+use Rattle.c_words.specs.Same.{sameBytes}
+use Rattle.c_list.specs.Back.{stateFrom}
+use Rattle.c_list.specs.Promises.{Stored}
+use Rattle.c_image.specs.Images.{modelNumbers, imageOf, modelFrom, modelIn}
+use Rattle.c_image.specs.Promises.{Storable}
+use Rattle.c_image.proofs.ImageLaws.{one-image}
+use Rattle.laws_images.specs.Promises.{LoadedStorable}
+use Rattle.laws_images.proofs.Fitting.{bit-fits, fits, each, Fitting, all-fit}
+
+-- bytes of words are bytes, and words of bytes are words
+four-bytes : (n : ℕ) (s : List ℕ) → Bytes s → Bytes (n % 256 ∷ n / 256 % 256 ∷ n / 65536 % 256 ∷ n / 16777216 % 256 ∷ s)
+four-bytes n s h zero = omega arith
+four-bytes n s h (suc zero) = omega arith
+four-bytes n s h (suc (suc zero)) = omega arith
+four-bytes n s h (suc (suc (suc zero))) = omega arith
+four-bytes n s h (suc (suc (suc (suc i)))) = h i
+
+no-bytes : Bytes []
+no-bytes i = omega arith
+
+all-bytes : (ns : List ℕ) → Bytes (bytesOf ns)
+unfolding bytesOf
+all-bytes [] = no-bytes
+all-bytes (n ∷ ns) = four-bytes n (bytesOf ns) (all-bytes ns)
+
+word-fits : (s : List ℕ) → Bytes s → wordAt s 0 < 2 ^ 32
+unfolding wordAt
+word-fits s h = omega (arith, h 0, h 1, h 2, h 3)
+
+pub all-words : (k : ℕ) (s : List ℕ) → Bytes s → AllWords (wordsIn k s)
+unfolding wordsIn
+all-words zero s h = tt
+all-words (suc k) s h = (word-fits s h, all-words k (drop 4 s) (bytes-drop s 4 h))
+
+-- a state that is made of words
+module _ (all : List ℕ) (words : AllWords all) where
+  word : (i : ℕ) → getD all i 0 < 2 ^ 32
+  word i = each all words i
+
+  bit : (i : ℕ) → bitOf (eqb (getD all i 0) 1) < 2 ^ 32
+  bit i = bit-fits (eqb (getD all i 0) 1)
+
+  byte : (i : ℕ) → getD all i 0 % 256 < 2 ^ 32
+  byte i = omega arith
+
+  made-fits : Fitting (stateFrom all)
+  unfolding stateFrom
+  made-fits = record {
+    profile = fits (word 0, (word 1, (word 2, (word 3, (word 4, (word 5, (word 6, (word 7, (word 8, (word 9, tt))))))))));
+    settings = fits (word 10, (word 11, (word 12, (word 13, (word 14, (word 15, (word 16, (word 17, (bit 18, (bit 19, (bit 20, (bit 21, (bit 22, (word 23, tt))))))))))))));
+    registers = fits (byte 24, (byte 25, (byte 26, (byte 27, (byte 28, (byte 29, (word 30, (bit 31, (bit 32, (bit 33, tt))))))))));
+    cycle = fits (word 39, (word 40, (word 41, (bit 42, tt))));
+    watchdog = fits (word 43, tt);
+    sample = rw (signs .again (getD all 47 0)) (fits (word 44, (word 45, (word 46, (word 47, (word 48, (word 49, tt)))))));
+  }
+
+  made-stored : Stored (stateFrom all .registers)
+  unfolding stateFrom
+  made-stored = record { r15 = omega arith; r16 = omega arith; r17 = omega arith; r18 = omega arith; r19 = omega arith; r1a = omega arith }
+
+  made-storable : Storable (On (stateFrom all))
+  made-storable = (all-fit (stateFrom all) made-fits, made-stored)
+
+from-storable : (bytes : List ℕ) → Bytes bytes → Storable (modelFrom bytes)
+unfolding modelFrom
+from-storable bytes h = go (eqb (wordAt bytes 0) 0)
+  where
+    all : List ℕ
+    all = wordsIn 53 (drop 4 bytes)
+
+    go : (off : Bool) → Storable (pick off Off (On (stateFrom all)))
+    go true = tt
+    go false = made-storable all (all-words 53 (drop 4 bytes) (bytes-drop bytes 4 h))
+
+-- what loads was made from the bytes
+loads-from : (bytes : List ℕ) (m : Model) → modelIn bytes ≡ accepted m → modelFrom bytes ≡ m
+unfolding modelIn
+loads-from bytes m e = go (sameBytes (imageOf (modelFrom bytes)) bytes) (modelFrom bytes) e
+  where
+    go : (t : Bool) (n : Model) → pick t (accepted n) (refused 5) ≡ accepted m → n ≡ m
+    go true n e = cc
+    go false n e = absurd (let z : _≡_ {A = ℕ} 0 1 = cc in omega arith)
+
+image-bytes : (m : Model) → Bytes (imageOf m)
+unfolding imageOf
+image-bytes m = all-bytes (modelNumbers m)
+
+pub loaded-storable : LoadedStorable
+loaded-storable image m e =
+    let bytes : Bytes image = subst Bytes (sym (one-image image m e)) (image-bytes m) in
+    subst Storable (loads-from image m e) (from-storable image bytes)

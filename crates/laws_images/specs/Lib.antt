@@ -1,0 +1,2 @@
+-- The definitions of the crate `laws_images`.
+pub mod Promises

@@ -1,0 +1,3 @@
+-- The definitions of the crate `laws_outcome`.
+pub mod One
+pub mod Calls

@@ -1,0 +1,49 @@
+-- Every row holds: both sides compute to the same numbers.
+use mathlib.Core.Path.{refl}
+use Rattle.settle_bands.specs.Effect.{shareOf, cutOf, suspendsOf}
+use Rattle.settle_bands.specs.Thresholds.{bandOf}
+use Rattle.base.specs.Units.{inPack, belowShare}
+use Rattle.step_event.specs.Clock.{observedOf, countedOf, clearedIf, timesOf, unitsOf}
+use Rattle.step_event.specs.Pages.{wholeOf, pageOf}
+use Rattle.step_event.specs.Steps.{stepOf, firstOf, movedOf, observeOf}
+use Rattle.step_event.specs.Walks.{startWalk, walkOf, metBy}
+use Rattle.step_flags.specs.Edges.{edgesOf, seenOf, expiresOf, phaseChanges, bandChanges, reachesOf}
+use Rattle.step_flags.specs.Expiry.{expiredOf}
+use Rattle.log_event.specs.Events.{eventOf}
+use Rattle.log_event.specs.Ibat.{signedOf}
+use Rattle.state_fields.specs.Rows.{shownOf, fieldsAt, takenOf, fields}
+use Rattle.settle_all.specs.Gather.{testsOf}
+use Rattle.settle_all.specs.Settle.{settleOf, forcedOf, settledOf}
+use Rattle.settle_levels.specs.Clamps.{baseOf, packClampOf, faultOf}
+use Rattle.settle_levels.specs.Comparators.{latchesOf, shortOf, lowOf, packOverOf}
+use Rattle.settle_levels.specs.Voltage.{chargeVoltageOf, belowRecharge, taperOf}
+use Rattle.report_text.specs.Decimal.{decimal, decimalBy}
+use Rattle.report_text.specs.Text.{endText, lineText, headedText}
+use Rattle.step_kinds.specs.Finish.{finishOf, withFlags}
+use Rattle.step_kinds.specs.Plain.{powerOnOf, setOf, writeEventOf, takeFlagsOf, serviceOf, resetEventOf, poweredOf}
+use Rattle.log_number.specs.Number.{numberAt, readNumber, readGroups, spell, groups}
+use Rattle.state_parts.specs.Edges.{merged, pulseOf, flagsNumber}
+use Rattle.settle_phases.specs.Cycles.{cycleOf}
+use Rattle.settle_phases.specs.Order.{phaseOf, clearsOf, endsOf, judgedOf, restartsOf}
+use Rattle.report_pages.specs.Text.{linesText, numbersOf}
+use Rattle.log_record.specs.Items.{spellItems, readItems}
+use Rattle.log_record.specs.Records.{spellEvent, recordAt, readRecord}
+use Rattle.state_registers.specs.Reads.{byteAt}
+use Rattle.state_registers.specs.Resets.{resetOf, restored}
+use Rattle.state_registers.specs.Writes.{writeOf, writtenTo, recounted, placed}
+use Rattle.laws_rows.specs.Rows.{rows, EveryRow}
+use Rattle.settle_permission.specs.Bits.{regulatedOf}
+use Rattle.settle_permission.specs.Ending.{endingOf}
+use Rattle.settle_permission.specs.Limits.{reachedOf}
+use Rattle.settle_permission.specs.Permission.{permittedOf}
+use Rattle.state_settings.specs.Kept.{settingsOk}
+use Rattle.state_settings.specs.Numbered.{heldOf, settingNumbers, storeOf}
+use Rattle.state_settings.specs.Ranges.{mayHold, rangeOf, ranges}
+use Rattle.report_state.specs.Lines.{lineOf}
+use Rattle.report_state.specs.Report.{reportOf, fastCurrent, inputLimitOf, chargeClampOf}
+use Rattle.state_start.specs.Values.{startOf, startSettings, startVreg, startIchg, startVsysmin}
+use Rattle.state_valid.specs.Holds.{stateOk, profileOk, registersOk, cycleOk, watchdogOk, sampleOk}
+
+pub every-row : EveryRow
+unfolding rows linesText wholeOf endText headedText spellEvent numberAt lineText numbersOf pageOf startWalk stepOf spellItems readNumber decimal walkOf heldOf reportOf firstOf stateOk movedOf readGroups decimalBy recordAt settingNumbers fastCurrent chargeVoltageOf inputLimitOf powerOnOf profileOk settingsOk registersOk cycleOk watchdogOk sampleOk setOf writeEventOf takeFlagsOf observeOf serviceOf resetEventOf spell readRecord chargeClampOf shareOf baseOf inPack cutOf poweredOf mayHold finishOf storeOf writeOf withFlags observedOf resetOf groups metBy packClampOf settleOf startOf shownOf rangeOf edgesOf merged pulseOf writtenTo countedOf expiredOf clearedIf timesOf unitsOf startSettings restored lineOf readItems forcedOf latchesOf bandOf settledOf testsOf fieldsAt ranges seenOf expiresOf phaseChanges bandChanges reachesOf recounted placed takenOf byteAt regulatedOf startVreg startIchg startVsysmin flagsNumber eventOf faultOf shortOf lowOf packOverOf cycleOf phaseOf permittedOf suspendsOf belowRecharge taperOf endingOf fields reachedOf signedOf belowShare clearsOf endsOf judgedOf restartsOf
+every-row = (refl, (refl, (refl, (refl, (refl, (refl, (refl, (refl, (refl, (refl, tt))))))))))

@@ -1,0 +1,2 @@
+-- The law of the crate `laws_rows`.
+pub mod Holds

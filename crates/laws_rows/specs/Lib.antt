@@ -1,0 +1,3 @@
+-- The definitions of the crate `laws_rows`.
+pub mod Cases
+pub mod Rows

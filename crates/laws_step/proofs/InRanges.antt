@@ -1,0 +1,90 @@
+-- The tests of ranges, and the statements that they stand for, each way.
+use Prim.Native.Nat.{ℕ, _%_, _≤_}
+use mathlib.Core.Path.{_≡_, refl, sym, subst, _∙_}
+use mathlib.Core.Bool.{Bool, true, false, not, _&&_, true≢false}
+use mathlib.Core.Logic.{_↔_, _⊎_, inl, inr}
+use native.Mathlib.Omega.{arith}
+use lib.Dec.{T, leb, eqb}
+use lib.IntN.{ℤ}
+use lib.Signed.{leZ, _≤ℤ_}
+use borrow.Author.Tests.{le-leb, eqb-true, eq-eqb, lt-leb, leb-false, not-true}
+use Rattle.base.proofs.Tests.{and-iff, leb-iff}
+use Rattle.state_fields.specs.Rows.{frequencyOk}
+use Rattle.state_parts.specs.declared.profile.Profile.{Profile}
+use Rattle.state_parts.specs.declared.sample.Sample.{Sample}
+use Rattle.state_settings.specs.Ranges.{rangeOf, knownSetting, mayHold}
+use Rattle.state_valid.specs.Holds.{profileOk, sampleOk}
+use Rattle.laws_step.specs.Rows.{Among, ProfileIn, SampleIn, ValueIn}
+
+-- a test that fails, and the statement that it stands for
+pub refuted : {P : Type 0} (t : Bool) → (t ≡ true) ↔ P → not t ≡ true → ¬ P
+refuted t h e holds = true≢false (sym (h .1 holds) ∙ not-true t e)
+
+pub failed : {P : Type 0} (t : Bool) → (t ≡ true) ↔ P → ¬ P → t ≡ false
+failed true h n = absurd (n (h .0 refl))
+failed false h n = refl
+
+pub among : (n low high : ℕ) → ((leb low n && leb n high) ≡ true) ↔ Among n low high
+among n low high =
+    (λ e. let k = simp (and-iff, leb-iff) at e in (omega arith, omega arith), λ k. simp (le-leb low n (k .0), le-leb n high (k .1)))
+
+leZ-iff : (a b : ℤ) → ((leZ a b ≡ true) → a ≤ℤ b) × (a ≤ℤ b → leZ a b ≡ true)
+leZ-iff a b = (λ e. record { le = subst T (sym e) tt }, λ k. yes-of (leZ a b) (k .le))
+  where
+    yes-of : (t : Bool) → T t → t ≡ true
+    yes-of true h = refl
+    yes-of false h = absurd h
+
+pub profile-in : (p : Profile) → (profileOk p ≡ true) ↔ ProfileIn p
+unfolding profileOk
+profile-in p = (
+  λ e.
+      let k = simp (and-iff, leb-iff) at e in
+      record {
+        cell = omega arith;
+        vchg = omega arith;
+        ichg = omega arith;
+        ohms = omega arith;
+        ceiling = (omega arith, omega arith);
+        trickle = omega arith;
+        precharge = omega arith;
+        fast = omega arith;
+        watchdog = omega arith;
+      },
+  λ k.
+      simp (and-iff, leb-iff) (((((((((k .cell, k .vchg), k .ichg), k .ohms), k .ceiling .0), k .ceiling .1), k .trickle), k .precharge), k .fast), k .watchdog),
+)
+
+pub sample-in : (x : Sample) → (sampleOk x ≡ true) ↔ SampleIn x
+unfolding sampleOk
+sample-in x = (
+  λ e.
+      let k = simp (and-iff, leb-iff, leZ-iff) at e in
+      record { input = k .0 .0 .0 .0 .0; pack = k .0 .0 .0 .0 .1; ibat = (k .0 .0 .0 .1, k .0 .0 .1); ts = k .0 .1; bits = k .1 },
+  λ k.
+      simp (and-iff, leb-iff, leZ-iff) (((((k .input, k .pack), k .ibat .0), k .ibat .1), k .ts), k .bits),
+)
+
+pub value-in : (number value : ℕ) → Among number 1 14 → (mayHold number value ≡ true) ↔ ValueIn number value
+unfolding mayHold
+value-in number value known =
+    let r = rangeOf number in (
+      λ e.
+          let k = and-iff (knownSetting number) ((leb (r .low) value && leb value (r .high)) && eqb (value % r .step) 0) .0 e .1 in
+          let l = and-iff (leb (r .low) value && leb value (r .high)) (eqb (value % r .step) 0) .0 k in
+          record { range = among value (r .low) (r .high) .0 (l .0); step = eqb-true (value % r .step) 0 (l .1) },
+      λ k.
+          simp (among number 1 14 .1 known, among value (r .low) (r .high) .1 (k .range), eq-eqb (value % r .step) 0 (k .step)),
+    )
+
+-- "written 0 or 7"
+pub bad-frequency-is : (byte : ℕ) → (not (frequencyOk byte) ≡ true) ↔ ((byte % 8 ≡ 0) ⊎ (byte % 8 ≡ 7))
+bad-frequency-is byte = (λ e. by (leb 1 (byte % 8)) refl (not-true (frequencyOk byte) e), λ k. back k)
+  where
+    by : (t : Bool) → leb 1 (byte % 8) ≡ t → (t && leb (byte % 8) 6) ≡ false → (byte % 8 ≡ 0) ⊎ (byte % 8 ≡ 7)
+    by true e f = inr (omega (arith, leb-false (byte % 8) 6 f))
+    by false e f = inl (omega (arith, leb-false 1 (byte % 8) e))
+
+    back : (byte % 8 ≡ 0) ⊎ (byte % 8 ≡ 7) → not (frequencyOk byte) ≡ true
+    back (inl z) = simp (lt-leb 1 (byte % 8) (omega arith))
+    back (inr z) = simp (le-leb 1 (byte % 8) (omega arith), lt-leb (byte % 8) 6 (omega arith))

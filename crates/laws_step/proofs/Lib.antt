@@ -1,0 +1,6 @@
+-- The laws of the crate `laws_step`.
+pub mod InRanges
+pub mod Given
+pub mod Sums
+pub mod Answers
+pub mod TakenFlags

@@ -1,0 +1,61 @@
+-- A state that an accepted event makes is settled, and taking its flags moves nothing else.
+use Prim.Native.Nat.{ℕ}
+use mathlib.Core.Path.{_≡_, refl, ap, subst, _∙_}
+use mathlib.Core.Bool.{Bool, true, false, not, not-and-self, or-false}
+use native.Mathlib.Omega.{arith}
+use lib.Dec.{eqb}
+use borrow.Author.Tests.{eq-eqb}
+use Rattle.state_parts.specs.Edges.{noFlags, merged, pulseOf}
+use Rattle.state_parts.specs.declared.flags.Flags.{Flags}
+use Rattle.state_parts.specs.declared.state.State.{State}
+use Rattle.state_parts.specs.declared.state.Model.{Model}
+use Rattle.state_parts.specs.declared.state.Model.the-variants.{On}
+use Rattle.step_flags.specs.Edges.{expiresOf, reachesOf, phaseChanges, bandChanges, seenOf, edgesOf}
+use Rattle.settle_all.specs.Settle.{forcedOf, settledOf, settleOf}
+use Rattle.settle_all.specs.Gather.{testsOf}
+use Rattle.settle_all.proofs.Once.{settles-once}
+use Rattle.step_kinds.specs.Finish.{withFlags, finishOf}
+use Rattle.step_kinds.specs.Plain.{Outcome, takeFlagsOf}
+use Rattle.step_event.specs.Steps.{movedOf, modelOk, stepOf}
+use Rattle.step_event.proofs.Keeps.{Comes, refuses, accepts, comes, accepted-passes}
+use Rattle.step_event.proofs.Numbered.{some-number}
+use Rattle.laws_step.specs.Theorems.{StepSettles, TakesFlags, TakeFlagsAgain}
+
+-- settling reads no flags
+flagged-settles : (s : State) (f : Flags) (observed : Bool) → settleOf (withFlags s f) observed ≡ withFlags (settleOf s observed) f
+unfolding settleOf forcedOf settledOf testsOf withFlags
+flagged-settles s f observed = refl
+
+pub step-settles : StepSettles
+step-settles m e s none on = by (comes m e) none on
+  where
+    by : {o : Outcome} → Comes m o → o .number ≡ 0 → o .model ≡ On s → settleOf s false ≡ s
+    by (refuses r) none on = absurd (omega (arith, some-number r))
+    by (accepts written observed flags pulse handed k) none on =
+        let same : withFlags (settleOf written observed) flags ≡ s = cc in
+        subst (λ (t : State). settleOf t false ≡ t) same
+        (flagged-settles (settleOf written observed) flags false ∙ ap (λ (t : State). withFlags t flags) (settles-once written observed))
+
+-- between a state and itself there is no edge
+no-change : (n : ℕ) → not (eqb n n) ≡ false
+no-change n = simp (eq-eqb n n refl)
+
+no-edges : (s : State) → edgesOf s s ≡ noFlags
+unfolding edgesOf expiresOf reachesOf phaseChanges bandChanges seenOf
+no-edges s = simp (not-and-self, no-change)
+
+merged-none : (f : Flags) → merged f noFlags ≡ f
+unfolding merged
+merged-none f = simp or-false
+
+no-pulse : (masks : ℕ) → pulseOf noFlags masks ≡ false
+unfolding pulseOf
+no-pulse masks = refl
+
+pub takes-flags : TakesFlags
+unfolding stepOf movedOf takeFlagsOf finishOf withFlags
+takes-flags s ok settled = simp (ok, settled, no-edges s, merged-none (s .flags), no-pulse (s .settings .masks))
+
+pub take-flags-again : TakeFlagsAgain
+unfolding modelOk
+take-flags-again m e s none on = takes-flags s (subst (λ (n : Model). modelOk n ≡ true) on (accepted-passes m e none)) (step-settles m e s none on)

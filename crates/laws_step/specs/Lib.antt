@@ -1,0 +1,3 @@
+-- The definitions of the crate `laws_step`.
+pub mod Rows
+pub mod Theorems

@@ -1,0 +1,145 @@
+-- Each clause of demand 3 at the run that meets it and the run that doesn't: its test is computed, and the test means the clause.
+use Prim.Native.Nat.{ℕ}
+use mathlib.Core.Path.{_≡_, refl, sym, ap, _∙_}
+use mathlib.Core.List.{List, [], _∷_}
+use mathlib.Core.Bool.{Bool, true, false, not, _&&_, true≢false}
+use lib.Dec.{eqb}
+use lib.ListN.{getD}
+use Rattle.base.specs.Units.{inPack, belowShare}
+use Rattle.state_start.specs.Values.{startVreg, startIchg, startVsysmin, startSettings}
+use Rattle.state_settings.specs.Numbered.{settingNumbers, heldOf}
+use Rattle.state_settings.specs.Ranges.{ranges, rangeOf, mayHold}
+use Rattle.state_fields.specs.Rows.{fields, fieldsAt, takenOf, resetByte}
+use Rattle.settle_permission.specs.Bits.{regulatedOf}
+use Rattle.state_valid.specs.Holds.{profileOk, sampleOk}
+use Rattle.laws_account.specs.History.{Run, since, sumAfter, count, upTo}
+use Rattle.laws_account.specs.Held.{profileOf, sampleOf, elapsed, wasObserved, wasReset, wasServed, unserved, expired, ichg, overridden, cellsOf, byteOf}
+use Rattle.laws_account.specs.Valued.{pinFault, startValue, settingOf}
+use Rattle.laws_account.specs.Judged.{vbat, packClamp, baseAt, inputOk, inputOver, inputGood, short, low, packOver, bandAt, suspended, chargeVoltage, permitted, tapering, rechargeDue, ending}
+use Rattle.laws_account.specs.Cycles.{trickle, precharge, fast, limitOf, reaches, unitsOf, gave, isDone, wasDone, restarts, starts, timeIn, timeFound, limitFound, fault, chargeEnds, phaseBy, limitReached, phasesOf, phaseAt}
+use Rattle.laws_account.specs.Refused.{refusalIn}
+use Rattle.laws_demands.proofs.Means.{Means, false-means, and-means, not-means, re-means}
+use Rattle.laws_demands.proofs.Crossings.{ok-means, over-means, good-means, short-means, low-means, pack-means}
+use Rattle.laws_demands.proofs.Cycling.{reached-means, any-means, done-means}
+use Rattle.laws_demands.proofs.Charges.{faulty, chargesAt}
+use Rattle.laws_demands.proofs.Charging.{allowed, allowed-means, fault-means, suspended-means, tests-mean}
+use Rattle.laws_witness.specs.Days.{day, slow, unattended, mild, packs, inputs, stays}
+use Rattle.laws_witness.specs.Clauses.{Part, goodInput, permission, noFault, noSuspension, notDone, noLimit, partOf, stopped, placeOf, Clause, part, okInput, overInput, shorted, lowPack, overPack, reached, ended, charges, inTrickle, inPrecharge, otherwise, clamped, clauseOf, meeting, failing, EachTried, EachAlone}
+use Rattle.laws_witness.proofs.Accepting.{accepts, accepts-means}
+
+-- the test of each part and of each clause
+abbrev partTest : Part → Run → Bool
+partTest goodInput r = inputGood r
+partTest permission r = allowed r
+partTest noFault r = not (faulty r)
+partTest noSuspension r = not (suspended r)
+partTest notDone r = not (isDone phaseAt r)
+partTest noLimit r = not (limitReached phaseAt r)
+
+part-means : (p : Part) (r : Run) → Means (partTest p r) (partOf p r)
+part-means goodInput r = good-means r
+part-means permission r = allowed-means r
+part-means noFault r = not-means (fault-means r)
+part-means noSuspension r = not-means (suspended-means r)
+part-means notDone r = not-means (done-means r)
+part-means noLimit r = re-means (λ h s t. h (s, t)) (λ h t. h (t .0) (t .1)) (not-means (any-means r))
+
+abbrev test : Clause → Run → Bool
+test (part p) r = partTest p r
+test okInput r = inputOk r
+test overInput r = inputOver r
+test shorted r = short r
+test lowPack r = low r
+test overPack r = packOver r
+test (reached s) r = reaches (limitOf s (profileOf r)) (timeIn phaseAt s r)
+test ended r = isDone phaseAt r
+test charges r = chargesAt phaseAt r
+test inTrickle r = chargesAt phaseAt r && short r
+test inPrecharge r = chargesAt phaseAt r && (not (short r) && low r)
+test otherwise r = chargesAt phaseAt r && (not (short r) && not (low r))
+test clamped r = not (overridden ichg r)
+
+means : (c : Clause) (r : Run) → Means (test c r) (clauseOf c r)
+means (part p) r = part-means p r
+means okInput r = ok-means r
+means overInput r = over-means r
+means shorted r = short-means r
+means lowPack r = low-means r
+means overPack r = pack-means r
+means (reached s) r = reached-means s r
+means ended r = done-means r
+means charges r = tests-mean r
+means inTrickle r = and-means (tests-mean r) (short-means r)
+means inPrecharge r =
+    re-means (λ h. (h .0, h .1 .0, h .1 .1)) (λ h. (h .0, (h .1, h .2)))
+    (and-means (tests-mean r) (and-means (not-means (short-means r)) (low-means r)))
+means otherwise r =
+    re-means (λ h. (h .0, h .1 .0, h .1 .1)) (λ h. (h .0, (h .1, h .2)))
+    (and-means (tests-mean r) (and-means (not-means (short-means r)) (not-means (low-means r))))
+means clamped r = false-means (overridden ichg r)
+
+-- what is computed: the clause at the run that meets it and at the one that doesn't, and that both are accepted
+abbrev Computed : Clause → Type 0
+Computed c =
+    (test c (meeting c) ≡ true) × (test c (failing c) ≡ false) × (accepts (meeting c) ≡ true) × (accepts (failing c) ≡ true)
+
+computed : (c : Clause) → Computed c
+unfolding day slow unattended mild packs inputs stays fields fieldsAt takenOf resetByte inPack belowShare startVreg startIchg startVsysmin startSettings settingNumbers heldOf regulatedOf since sumAfter count upTo profileOf sampleOf elapsed wasObserved wasReset wasServed unserved expired overridden cellsOf byteOf pinFault startValue settingOf vbat packClamp baseAt inputOk inputOver inputGood short low packOver bandAt suspended chargeVoltage permitted tapering rechargeDue ending unitsOf gave isDone wasDone restarts starts timeIn timeFound limitFound fault chargeEnds phaseBy limitReached phasesOf phaseAt accepts refusalIn profileOk sampleOk mayHold rangeOf ranges
+computed (part goodInput) = (refl, refl, refl, refl)
+computed (part permission) = (refl, refl, refl, refl)
+computed (part noFault) = (refl, refl, refl, refl)
+computed (part noSuspension) = (refl, refl, refl, refl)
+computed (part notDone) = (refl, refl, refl, refl)
+computed (part noLimit) = (refl, refl, refl, refl)
+computed okInput = (refl, refl, refl, refl)
+computed overInput = (refl, refl, refl, refl)
+computed shorted = (refl, refl, refl, refl)
+computed lowPack = (refl, refl, refl, refl)
+computed overPack = (refl, refl, refl, refl)
+computed (reached trickle) = (refl, refl, refl, refl)
+computed (reached precharge) = (refl, refl, refl, refl)
+computed (reached fast) = (refl, refl, refl, refl)
+computed ended = (refl, refl, refl, refl)
+computed charges = (refl, refl, refl, refl)
+computed inTrickle = (refl, refl, refl, refl)
+computed inPrecharge = (refl, refl, refl, refl)
+computed otherwise = (refl, refl, refl, refl)
+computed clamped = (refl, refl, refl, refl)
+
+pub each-tried : EachTried
+each-tried c =
+    let k = computed c in
+    record {
+      meets = means c (meeting c) .fact (k .0);
+      fails = λ h. true≢false (sym (means c (failing c) .test h) ∙ k .1);
+      met = accepts-means (meeting c) .fact (k .2);
+      failed = accepts-means (failing c) .fact (k .3);
+    }
+
+-- each part at each run that was stopped by one
+abbrev partTests : Run → List Bool
+partTests r =
+    partTest goodInput r ∷ partTest permission r ∷ partTest noFault r ∷ partTest noSuspension r ∷ partTest notDone r ∷ partTest noLimit r ∷ []
+
+abbrev others : ℕ → List Bool
+others n = not (eqb n 0) ∷ not (eqb n 1) ∷ not (eqb n 2) ∷ not (eqb n 3) ∷ not (eqb n 4) ∷ not (eqb n 5) ∷ []
+
+stopped-tests : (c : Part) → partTests (stopped c) ≡ others (placeOf c)
+unfolding day slow unattended mild packs inputs stays fields fieldsAt takenOf resetByte inPack belowShare startVreg startIchg startVsysmin startSettings settingNumbers heldOf regulatedOf since sumAfter count upTo profileOf sampleOf elapsed wasObserved wasReset wasServed unserved expired overridden cellsOf byteOf pinFault startValue settingOf vbat packClamp baseAt inputOk inputOver inputGood short low packOver bandAt suspended chargeVoltage permitted tapering rechargeDue ending unitsOf gave isDone wasDone restarts starts timeIn timeFound limitFound fault chargeEnds phaseBy limitReached phasesOf phaseAt
+stopped-tests goodInput = refl
+stopped-tests permission = refl
+stopped-tests noFault = refl
+stopped-tests noSuspension = refl
+stopped-tests notDone = refl
+stopped-tests noLimit = refl
+
+at-place : (c d : Part) → partTest d (stopped c) ≡ not (eqb (placeOf c) (placeOf d))
+at-place c goodInput = ap (λ l. getD l 0 false) (stopped-tests c)
+at-place c permission = ap (λ l. getD l 1 false) (stopped-tests c)
+at-place c noFault = ap (λ l. getD l 2 false) (stopped-tests c)
+at-place c noSuspension = ap (λ l. getD l 3 false) (stopped-tests c)
+at-place c notDone = ap (λ l. getD l 4 false) (stopped-tests c)
+at-place c noLimit = ap (λ l. getD l 5 false) (stopped-tests c)
+
+pub each-alone : EachAlone
+each-alone c d e = part-means d (stopped c) .fact (at-place c d ∙ ap not e)

@@ -1,0 +1,114 @@
+-- For each clause of demand 3 a run that meets it and one that doesn't.
+use Prim.Native.Nat.{ℕ}
+use mathlib.Core.Path.{_≡_}
+use mathlib.Core.Bool.{false}
+use lib.Dec.{eqb}
+use Rattle.laws_account.specs.History.{set, Run, _▸_}
+use Rattle.laws_account.specs.Held.{ichg, overridden}
+use Rattle.laws_account.specs.Cycles.{Stage, trickle, precharge, fast}
+use Rattle.laws_account.specs.Refused.{Accepted}
+use Rattle.laws_demands.specs.Crossed.{InputOk, InputOver, InputGood, Short, Low, PackOver}
+use Rattle.laws_demands.specs.Stages.{Reached, Done}
+use Rattle.laws_demands.specs.Demand.{Permitted, Fault, Suspending, Charging}
+use Rattle.laws_witness.specs.Days.{sees, dayAt, slow, unattended, mild, packs, inputs, stays}
+
+-- "the input is good, charge is permitted, no fault or suspending temperature holds, the cycle isn't done, and no stage with a limit has reached it"
+pub data Part : Type 0 where
+  goodInput permission noFault noSuspension notDone noLimit : Part
+
+abbrev pub partOf : Part → Run → Type 0
+partOf goodInput r = InputGood r
+partOf permission r = Permitted r
+partOf noFault r = ¬ Fault r
+partOf noSuspension r = ¬ Suspending r
+partOf notDone r = ¬ Done r
+partOf noLimit r = (s : Stage) → ¬ Reached s r
+
+-- a run that fails just this one
+abbrev pub stopped : Part → Run
+stopped goodInput = inputs 12000 2000
+stopped permission = dayAt 3 ▸ set 9 0
+stopped noFault = dayAt 3 ▸ sees 4000 12000 7000 500 55000 32
+stopped noSuspension = mild 80000
+stopped notDone = dayAt 5
+stopped noLimit = dayAt 9
+
+abbrev pub placeOf : Part → ℕ
+placeOf goodInput = 0
+placeOf permission = 1
+placeOf noFault = 2
+placeOf noSuspension = 3
+placeOf notDone = 4
+placeOf noLimit = 5
+
+-- the crossed thresholds and the left sides of the demand's other sentences
+pub data Clause : Type 0 where
+  part : Part → Clause
+  okInput overInput shorted lowPack overPack : Clause
+  reached : Stage → Clause
+  ended : Clause
+  charges inTrickle inPrecharge otherwise clamped : Clause
+
+abbrev pub clauseOf : Clause → Run → Type 0
+clauseOf (part p) r = partOf p r
+clauseOf okInput r = InputOk r
+clauseOf overInput r = InputOver r
+clauseOf shorted r = Short r
+clauseOf lowPack r = Low r
+clauseOf overPack r = PackOver r
+clauseOf (reached s) r = Reached s r
+clauseOf ended r = Done r
+clauseOf charges r = Charging r
+clauseOf inTrickle r = Charging r × Short r
+clauseOf inPrecharge r = Charging r × (¬ Short r) × Low r
+clauseOf otherwise r = Charging r × (¬ Short r) × (¬ Low r)
+clauseOf clamped r = overridden ichg r ≡ false
+
+-- a threshold that was crossed and one that wasn't end with the same observation: only what came before differs
+abbrev pub meeting : Clause → Run
+meeting (part p) = dayAt 3
+meeting okInput = inputs 12000 2400
+meeting overInput = inputs 36300 35000
+meeting shorted = packs 3000 4000
+meeting lowPack = packs 5000 5800
+meeting overPack = packs 8800 8600
+meeting (reached trickle) = stays 3000 31000
+meeting (reached precharge) = stays 5000 41000
+meeting (reached fast) = slow 41000
+meeting ended = dayAt 6
+meeting charges = dayAt 1
+meeting inTrickle = dayAt 1
+meeting inPrecharge = dayAt 2
+meeting otherwise = dayAt 3
+meeting clamped = unattended 40000
+
+abbrev pub failing : Clause → Run
+failing (part p) = stopped p
+failing okInput = inputs 0 2400
+failing overInput = inputs 12000 35000
+failing shorted = packs 7000 4000
+failing lowPack = packs 7000 5800
+failing overPack = packs 7000 8600
+failing (reached trickle) = stays 3000 30999
+failing (reached precharge) = stays 5000 40999
+failing (reached fast) = slow 40999
+failing ended = dayAt 8
+failing charges = dayAt 0
+failing inTrickle = dayAt 2
+failing inPrecharge = dayAt 3
+failing otherwise = dayAt 2
+failing clamped = unattended 39999
+
+pub record Tried (c : Clause) : Type 0 where
+  pub meets : clauseOf c (meeting c)
+  pub fails : ¬ clauseOf c (failing c)
+  -- both are runs of accepted events
+  pub met : Accepted (meeting c)
+  pub failed : Accepted (failing c)
+
+abbrev pub EachTried : Type 0
+EachTried = (c : Clause) → Tried c
+
+-- no part of "exactly when" follows from the others: where one fails all others may hold
+abbrev pub EachAlone : Type 0
+EachAlone = (c d : Part) → eqb (placeOf c) (placeOf d) ≡ false → partOf d (stopped c)

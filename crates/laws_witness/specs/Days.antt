@@ -1,0 +1,65 @@
+-- Runs that go through every phase and come to each clause of demand 3.
+use Prim.Native.Nat.{ℕ}
+use lib.IntN.{pos}
+use Rattle.state_parts.specs.declared.profile.Profile.{Profile}
+use Rattle.laws_account.specs.History.{Later, set, write, observe, Run, powered, _▸_, upTo}
+
+-- two cells of 4,200 mV, pin 1,500 mA; limits of 30, 40 and 20 s
+abbrev pub pack : Profile
+pack = record { cell = 2; vchg = 5; ichg = 4; ohms = 0; stamp = 0; ceiling = 4500; trickle = 30; precharge = 40; fast = 20; watchdog = 0 }
+
+-- the same with pin 100 mA, no limit and a watchdog of 40 s
+abbrev pub watched : Profile
+watched = record { cell = 2; vchg = 5; ichg = 1; ohms = 0; stamp = 0; ceiling = 4500; trickle = 0; precharge = 0; fast = 0; watchdog = 40 }
+
+-- stamp, VIN, VBAT, IBAT, TS and bits
+abbrev pub sees : ℕ → ℕ → ℕ → ℕ → ℕ → ℕ → Later
+sees stamp input pack ibat ts bits = observe (record { stamp = stamp; input = input; pack = pack; ibat = pos ibat; ts = ts; bits = bits })
+
+-- a good input, TS normal, no bit: stamp and VBAT
+abbrev pub seen : ℕ → ℕ → Later
+seen stamp pack = sees stamp 12000 pack 500 55000 0
+
+-- trickle, precharge, fast, taper, done; suspended by cold and done again; a restart; the fast limit after it; permission taken and given back
+unfoldable pub day : Run
+day =
+    powered pack
+    ▸ seen 1000 3000
+    ▸ seen 2000 5000
+    ▸ seen 3000 7000
+    ▸ seen 4000 8395
+    ▸ sees 5000 12000 8395 50 55000 0
+    ▸ sees 6000 12000 8300 0 80000 0
+    ▸ sees 7000 12000 8300 0 55000 0
+    ▸ seen 8000 8000
+    ▸ seen 28000 8000
+    ▸ set 9 0
+    ▸ set 9 1
+
+-- the moment after the day's first i events
+abbrev pub dayAt : ℕ → Run
+dayAt i = upTo i day
+
+-- fast under IINDPM: the limit of 20 s is reached after 40 s
+unfoldable pub slow : ℕ → Run
+slow stamp = powered pack ▸ sees 1000 12000 7000 500 55000 4 ▸ sees 21000 12000 7000 500 55000 4 ▸ sees stamp 12000 7000 500 55000 4
+
+-- ICHG's pin overridden, until the watchdog expires
+unfoldable pub unattended : ℕ → Run
+unattended stamp = powered watched ▸ write 0x1C 8 ▸ set 2 2000 ▸ seen 1000 7000 ▸ seen stamp 7000
+
+-- one observation in fast with this TS
+unfoldable pub mild : ℕ → Run
+mild ts = powered pack ▸ sees 1000 12000 7000 500 ts 0
+
+-- VBAT first and then another
+unfoldable pub packs : ℕ → ℕ → Run
+packs first then = powered pack ▸ seen 1000 first ▸ seen 2000 then
+
+-- VIN first and then another
+unfoldable pub inputs : ℕ → ℕ → Run
+inputs first then = powered pack ▸ sees 1000 first 7000 500 55000 0 ▸ sees 2000 then 7000 500 55000 0
+
+-- a VBAT held until a stamp
+unfoldable pub stays : ℕ → ℕ → Run
+stays level stamp = powered pack ▸ seen 1000 level ▸ seen stamp level

@@ -1,7 +1,0 @@
--- Every state has as many numbers.
-use mathlib.Core.Path.{refl}
-use Rattle.listing.specs.Numbers.{stateNumbers, StateLong}
-
-pub state-long : StateLong
-unfolding stateNumbers
-state-long s = refl

@@ -1,2 +1,0 @@
--- The laws of the crate `moves`.
-mod Events

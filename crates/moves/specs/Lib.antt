@@ -1,3 +1,0 @@
--- The definitions of the crate `moves`.
-pub mod Finish
-pub mod Plain

@@ -1,3 +1,0 @@
--- The definitions of the crate `outcome`.
-pub mod One
-pub mod Calls

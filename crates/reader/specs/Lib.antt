@@ -1,4 +1,0 @@
--- The definitions of the crate `reader`.
-pub mod Parts
-pub mod Readers
-pub mod Promises

@@ -1,3 +1,0 @@
--- The laws of the crate `remade`.
-pub mod FlagBits
-pub mod Again

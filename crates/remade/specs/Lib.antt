@@ -1,3 +1,0 @@
--- The definitions of the crate `remade`.
-pub mod Back
-pub mod Promises

@@ -1,0 +1,2 @@
+-- The laws of the crate `report_pages`.
+mod Writing

@@ -1,0 +1,2 @@
+-- The definitions of the crate `report_pages`.
+pub mod Text

@@ -1,0 +1,115 @@
+// The report: phase, charge current, charge voltage and input limit.
+ghost use mathlib.Core.Path.{_≡_};
+ghost use Prim.Native.Nat.{min};
+ghost use Rattle.base.specs.Pick.{pick};
+ghost use Rattle.report_state.specs.Report.{chargeClampOf, fastCurrent, currentIn, voltageIn, inputLimitOf, reportOf};
+use crate::answer::Report;
+use base::units::PackMv;
+use settle_bands::effect;
+use settle_levels::voltage;
+use state_parts::band::Band;
+use state_parts::phase::Phase;
+use state_parts::pins;
+use state_parts::profile::Profile;
+use state_parts::registers::Registers;
+use state_parts::settings::Settings;
+use state_parts::state::State;
+
+fn lower(first: u32, second: u32) -> u32
+    ensures { λ r. ⌜ r ≡ min first second ⌝ }
+{
+    if first <= second { first } else { second }
+}
+
+// What the charge current is at most, in mA.
+fn charge_clamp(profile: Profile, registers: Registers) -> u32
+    ensures { λ r. ⌜ r ≡ chargeClampOf profile registers ⌝ }
+{
+    let lifted = registers.ichgoverride;
+    let pin = pins::ichg(profile);
+    choose(lifted, 3300, pin)
+}
+
+fn choose(test: bool, first: u32, second: u32) -> u32
+    ensures { λ r. ⌜ r ≡ pick test first second ⌝ }
+{
+    if test { first } else { second }
+}
+
+// The current of phases 3 and 4: all that ICHG reaches.
+fn fast_current(profile: Profile, settings: Settings, registers: Registers, band: Band) -> u32
+    ensures { λ r. ⌜ r ≡ fastCurrent profile settings registers band ⌝ }
+{
+    let ichg = settings.ichg;
+    let clamp = charge_clamp(profile, registers);
+    let share = effect::share(registers, band);
+    let whole = lower(ichg, clamp);
+    ((whole as u64) * (share as u64) / 100) as u32
+}
+
+fn current_in(phase: Phase, precharge: u32, fast: u32) -> u32
+    ensures { λ r. ⌜ r ≡ currentIn phase precharge fast ⌝ }
+{
+    match phase {
+        Phase::Idle => 0,
+        Phase::Trickle => 100,
+        Phase::Precharge => precharge,
+        Phase::Fast => fast,
+        Phase::Taper => fast,
+        Phase::Done => 0,
+        Phase::Suspended => 0,
+        Phase::Fault => 0,
+    }
+}
+
+fn voltage_in(phase: Phase, charge: PackMv, none: PackMv) -> PackMv
+    ensures { λ r. ⌜ r ≡ voltageIn phase charge none ⌝ }
+{
+    match phase {
+        Phase::Idle => none,
+        Phase::Trickle => charge,
+        Phase::Precharge => charge,
+        Phase::Fast => charge,
+        Phase::Taper => charge,
+        Phase::Done => none,
+        Phase::Suspended => none,
+        Phase::Fault => none,
+    }
+}
+
+fn input_limit(profile: Profile, settings: Settings) -> u32
+    ensures { λ r. ⌜ r ≡ inputLimitOf profile settings ⌝ }
+{
+    let iindpm = settings.iindpm;
+    let ohms = profile.ohms;
+    if !settings.enextilim {
+        return iindpm;
+    }
+    if ohms < 1 {
+        return iindpm;
+    }
+    lower(iindpm, 3333000 / ohms)
+}
+
+// What the model reports.
+pub fn report(state: State) -> Report
+    ensures { λ r. ⌜ r ≡ reportOf state ⌝ }
+{
+    let profile = state.profile;
+    let settings = state.settings;
+    let registers = state.registers;
+    let phase = state.phase;
+    let band = state.band;
+    let precharge = settings.iprechg;
+    let fast = fast_current(profile, settings, registers, band);
+    let current = current_in(phase, precharge, fast);
+    let charge = voltage::charge_voltage(profile, settings, registers, band);
+    let volts = voltage_in(phase, charge, PackMv(0));
+    let limit = input_limit(profile, settings);
+    Report {
+        phase: phase,
+        current: current,
+        voltage: volts,
+        limit: limit,
+    }
+}

@@ -1,0 +1,25 @@
+-- 01, "Two logs, one program, one host": the lines that runlog prints.
+use Prim.Native.Nat.{ℕ}
+use mathlib.Core.List.{List, [], _∷_, _++_}
+use Rattle.report_text.specs.Decimal.{decimal}
+
+-- The byte after a number: 32, a space, where more numbers follow; 10, a newline, after the last.
+abbrev pub after : List ℕ → ℕ
+after [] = 10
+after (n ∷ more) = 32
+
+-- "each record gives: number, kind, answer (0 or refusal), phase, current, voltage, input limit, pulse, flags, in decimal, one space apart."
+unfoldable pub lineText : List ℕ → List ℕ
+lineText [] = []
+lineText (n ∷ more) = decimal n ++ (after more ∷ lineText more)
+
+-- a line that a word begins
+unfoldable pub headedText : List ℕ → List ℕ → List ℕ
+headedText word numbers = word ++ lineText numbers
+
+-- "Last: `end`, records read, code (0 or 1-4), offset of the log's end or the unreadable record."
+abbrev pub endWord : List ℕ
+endWord = 101 ∷ 110 ∷ 100 ∷ 32 ∷ []
+
+unfoldable pub endText : List ℕ → List ℕ
+endText numbers = headedText endWord numbers

@@ -1,2 +1,0 @@
--- The law of the crate `rows`.
-pub mod Holds

@@ -1,3 +1,0 @@
--- The definitions of the crate `rows`.
-pub mod Cases
-pub mod Rows

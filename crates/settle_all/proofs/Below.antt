@@ -1,0 +1,45 @@
+-- No limit is reached in the stage that a settling comes to.
+use mathlib.Core.Path.{_≡_, refl, _∙_}
+use mathlib.Core.Bool.{Bool, true, false, _||_, true≢false}
+use Rattle.settle_bands.specs.Thresholds.{bandOf}
+use Rattle.base.specs.Pick.{pick}
+use Rattle.settle_levels.specs.Comparators.{latchesOf}
+use Rattle.state_parts.specs.declared.band.Band.{Band}
+use Rattle.state_parts.specs.declared.latches.Latches.{Latches}
+use Rattle.state_parts.specs.declared.state.State.{State}
+use Rattle.settle_phases.proofs.Clean.{charging-clean}
+use Rattle.settle_phases.specs.Cycles.{cycleOf}
+use Rattle.settle_phases.specs.Order.{charging, clearsOf, phaseOf}
+use Rattle.settle_phases.specs.declared.tests.Tests.{Tests}
+use Rattle.settle_permission.proofs.Cleared.{reached-cleared}
+use Rattle.settle_permission.specs.Bits.{shutdownOf}
+use Rattle.settle_permission.specs.Limits.{reachedOf}
+use Rattle.settle_all.specs.Gather.{testsOf}
+use Rattle.settle_all.specs.Settle.{forcedOf, settledOf, settleOf}
+use Rattle.settle_all.specs.Theorems.{BelowLimits}
+
+or-right : (a b : Bool) → (a || b) ≡ false → b ≡ false
+or-right true b e = absurd (true≢false e)
+or-right false b e = e
+
+pick-same : (test b : Bool) → b ≡ false → pick test false b ≡ false
+pick-same true b e = refl
+pick-same false b e = e
+
+module _ (s : State) (k : Latches) (b : Band) (o : Bool) where
+  abbrev t : Tests
+  t = testsOf s k b o
+
+  unreached : t .fault ≡ false → reachedOf (s .profile) (s .cycle) ≡ false
+  unfolding testsOf
+  unreached e = or-right (shutdownOf (s .sample) || k .packover) _ e
+
+  below : charging (phaseOf t) ≡ true → reachedOf (s .profile) (cycleOf t (s .cycle)) ≡ false
+  unfolding cycleOf
+  below e = reached-cleared (s .profile) (s .cycle) _ (clearsOf t) ∙ pick-same (clearsOf t) _ (unreached (charging-clean t e .1))
+
+pub below-limits : BelowLimits
+unfolding settleOf settledOf forcedOf
+below-limits s o =
+    let f = forcedOf s in
+    below f (latchesOf (f .profile) (f .settings) (f .registers) (f .sample) (f .latches)) (bandOf (f .registers) (f .sample .ts)) o

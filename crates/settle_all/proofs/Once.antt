@@ -1,0 +1,75 @@
+-- Settling again changes nothing: EN_CHG stays stored, the comparators are at rest, and the tests judge the same phase and cycle.
+use mathlib.Core.Path.{_≡_, refl}
+use mathlib.Core.Bool.{Bool, true, false, not, _&&_, _||_}
+use Rattle.settle_bands.specs.Effect.{suspendsOf}
+use Rattle.settle_bands.specs.Thresholds.{bandOf}
+use Rattle.base.specs.Pick.{pick}
+use Rattle.settle_levels.proofs.Rest.{latches-rest}
+use Rattle.settle_levels.specs.Clamps.{faultOf, baseOf}
+use Rattle.settle_levels.specs.Comparators.{latchesOf}
+use Rattle.settle_levels.specs.Voltage.{chargeVoltageOf, taperOf, belowRecharge}
+use Rattle.state_parts.specs.declared.band.Band.{Band}
+use Rattle.state_parts.specs.declared.latches.Latches.{Latches}
+use Rattle.state_parts.specs.declared.settings.Settings.{Settings}
+use Rattle.state_parts.specs.declared.state.State.{State}
+use Rattle.settle_phases.proofs.Again.{same}
+use Rattle.settle_phases.specs.After.{afterOf}
+use Rattle.settle_phases.specs.Cycles.{cycleOf}
+use Rattle.settle_phases.specs.Order.{isTaper, clearsOf, phaseOf}
+use Rattle.settle_phases.specs.declared.tests.Tests.{Tests}
+use Rattle.settle_permission.proofs.Cleared.{reached-cleared}
+use Rattle.settle_permission.specs.Bits.{shutdownOf}
+use Rattle.settle_permission.specs.Ending.{endingOf}
+use Rattle.settle_permission.specs.Limits.{reachedOf}
+use Rattle.settle_permission.specs.Permission.{permittedOf}
+use Rattle.settle_all.specs.Gather.{testsOf}
+use Rattle.settle_all.specs.Settle.{storedOf, forcedOf, settledOf, settleOf}
+use Rattle.settle_all.specs.Theorems.{SettlesOnce}
+
+and-again : (a b : Bool) → ((a && b) && b) ≡ (a && b)
+and-again true true = refl
+and-again true false = refl
+and-again false b = refl
+
+stored-again : (fault : Bool) (s : Settings) → storedOf fault (storedOf fault s) ≡ storedOf fault s
+stored-again fault s = simp (and-again (s .enchg) (not fault))
+
+-- the tests of a state that was settled by t
+tests-after : (s : State) (k : Latches) (b : Band) (o : Bool)
+    → let t = testsOf s k b o in
+    testsOf (settledOf s k b t) k b false ≡ afterOf t ((shutdownOf (s .sample) || k .packover) || pick (clearsOf t) false (reachedOf (s .profile) (s .cycle)))
+unfolding testsOf settledOf afterOf cycleOf
+tests-after s k b o = simp (reached-cleared (s .profile) (s .cycle))
+
+module _ (s : State) (k : Latches) (b : Band) (o : Bool) where
+  abbrev t : Tests
+  t = testsOf s k b o
+
+  abbrev stays : Bool
+  stays = shutdownOf (s .sample) || k .packover
+
+  abbrev u : Tests
+  u = afterOf t (stays || pick (clearsOf t) false (reachedOf (s .profile) (s .cycle)))
+
+  judged-again : (phaseOf u ≡ phaseOf t) × (cycleOf u (cycleOf t (s .cycle)) ≡ cycleOf t (s .cycle))
+  unfolding testsOf
+  judged-again =
+      same o (isTaper (s .phase)) (endingOf (s .settings) (s .sample)) (s .cycle .trickle) (s .cycle .precharge) (s .cycle .fast) _ refl
+      (permittedOf (s .profile) (s .settings) (s .registers) (s .sample) k) stays (reachedOf (s .profile) (s .cycle)) (suspendsOf (s .registers) b) (s .cycle .done)
+      (belowRecharge (s .settings) (baseOf (s .profile) (s .settings) (s .registers)) (s .sample)) (k .short) (k .low)
+      (taperOf (chargeVoltageOf (s .profile) (s .settings) (s .registers) b) (s .sample))
+
+  kept : settledOf (settledOf s k b t) k b u ≡ settledOf s k b t
+  unfolding settledOf
+  kept = simp (judged-again .0, judged-again .1)
+
+  settled-again : settledOf (settledOf s k b t) k b (testsOf (settledOf s k b t) k b false) ≡ settledOf s k b t
+  settled-again = rw (tests-after s k b o) kept
+
+pub settles-once : SettlesOnce
+unfolding settleOf forcedOf settledOf
+settles-once s o =
+    let fault = faultOf (s .profile) (s .registers) in
+    let settings = storedOf fault (s .settings) in
+    let k = latchesOf (s .profile) settings (s .registers) (s .sample) (s .latches) in
+    simp (stored-again fault (s .settings), latches-rest (s .profile) settings (s .registers) (s .sample) (s .latches)) (settled-again (forcedOf s) k (bandOf (s .registers) (s .sample .ts)) o)

@@ -1,0 +1,46 @@
+-- What is proved of every settling, of every state.
+use mathlib.Core.Path.{_≡_}
+use mathlib.Core.Bool.{Bool, true, false}
+use Rattle.settle_bands.specs.Thresholds.{bandOf}
+use Rattle.settle_levels.specs.Clamps.{faultOf}
+use Rattle.settle_levels.specs.Comparators.{latchesOf}
+use Rattle.state_parts.specs.declared.state.State.{State}
+use Rattle.settle_phases.specs.Cycles.{cycleOf}
+use Rattle.settle_phases.specs.Order.{charging, phaseOf}
+use Rattle.settle_phases.specs.declared.tests.Tests.{Tests}
+use Rattle.settle_permission.specs.Limits.{reachedOf}
+use Rattle.settle_all.specs.Gather.{testsOf}
+use Rattle.settle_all.specs.Settle.{storedOf, forcedOf, settleOf}
+
+-- 01: "Settling with neither a new event nor time changes nothing.", whatever asked for the first one
+abbrev pub SettlesOnce : Type 0
+SettlesOnce = (s : State) (observed : Bool) → settleOf (settleOf s observed) false ≡ settleOf s observed
+
+-- settling moves EN_CHG, latches, cycle, phase and band, and nothing else
+pub record Unmoved (before after : State) : Type 0 where
+  pub profile : after .profile ≡ before .profile
+  pub settings : after .settings ≡ storedOf (faultOf (before .profile) (before .registers)) (before .settings)
+  pub registers : after .registers ≡ before .registers
+  pub watchdog : after .watchdog ≡ before .watchdog
+  pub sample : after .sample ≡ before .sample
+  pub flags : after .flags ≡ before .flags
+
+abbrev pub SettlesAlone : Type 0
+SettlesAlone = (s : State) (observed : Bool) → Unmoved s (settleOf s observed)
+
+-- what it moves them to: latches and band by the sample, cycle and phase by the tests
+abbrev pub testedOf : State → Bool → Tests
+testedOf s observed = testsOf (forcedOf s) (settleOf s observed .latches) (settleOf s observed .band) observed
+
+pub record Moved (s : State) (observed : Bool) : Type 0 where
+  pub latches : settleOf s observed .latches ≡ latchesOf (s .profile) (s .settings) (s .registers) (s .sample) (s .latches)
+  pub band : settleOf s observed .band ≡ bandOf (s .registers) (s .sample .ts)
+  pub cycle : settleOf s observed .cycle ≡ cycleOf (testedOf s observed) (s .cycle)
+  pub phase : settleOf s observed .phase ≡ phaseOf (testedOf s observed)
+
+abbrev pub SettlesTo : Type 0
+SettlesTo = (s : State) (observed : Bool) → Moved s observed
+
+-- 01: "7 fault, .. a stage limit reached": in the stage that a settling comes to, no limit is reached
+abbrev pub BelowLimits : Type 0
+BelowLimits = (s : State) (observed : Bool) → charging (settleOf s observed .phase) ≡ true → reachedOf (s .profile) (settleOf s observed .cycle) ≡ false

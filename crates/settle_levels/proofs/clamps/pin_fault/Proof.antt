@@ -1,0 +1,12 @@
+-- `pin_fault`: three tests.
+use borrow.Author.Needs.{needs}
+use Rattle.settle_levels.specs.Clamps.{faultOf}
+use Rattle.settle_levels.proofs.clamps.pin_fault.Statement.{statement}
+use Rattle.settle_levels.proofs.clamps.pin_fault.Tie as tie
+
+returns : tie.Need-returns
+unfolding faultOf
+returns c = search needs
+
+pub pin-fault-spec : {M : Type 1} → statement M
+pin-fault-spec = tie.close (tie.spec returns)

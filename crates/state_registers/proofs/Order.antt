@@ -1,0 +1,61 @@
+-- Each refusal of a write is given exactly when its row of 01 says, in 01's order; and when a written count is taken.
+use Prim.Native.Nat.{ℕ, _%_}
+use mathlib.Core.Path.{_≡_, refl}
+use mathlib.Core.Bool.{Bool, true, false, not, _&&_}
+use lib.Dec.{leb, eqb}
+use Rattle.base.specs.Pick.{pick}
+use Rattle.base.specs.Told.{Told, accepted, refused, answerNumber}
+use Rattle.state_fields.specs.Rows.{frequencyOk}
+use Rattle.state_parts.specs.declared.registers.Registers.{Registers}
+use Rattle.state_parts.specs.declared.state.State.{State}
+use Rattle.state_registers.specs.Reads.{knownAddress, readOf}
+use Rattle.state_registers.specs.Writes.{countTaken, writtenTo, writeOf}
+
+-- "10, 5, 11 for writes"
+abbrev pub refusalOf : Bool → Bool → Bool → ℕ
+refusalOf unknown large bad = pick unknown 10 (pick large 5 (pick bad 11 0))
+
+module _ (s : State) (a b : ℕ) where
+  numbers : (unknown large bad : Bool) (after : State)
+      → answerNumber (pick unknown (refused 10) (pick large (refused 5) (pick bad (refused 11) (accepted after)))) ≡ refusalOf unknown large bad
+  numbers true large bad after = refl
+  numbers false true bad after = refl
+  numbers false false true after = refl
+  numbers false false false after = refl
+
+  pub write-number : answerNumber (writeOf s a b) ≡ refusalOf (not (knownAddress a)) (not (leb b 255)) (eqb a 0x16 && not (frequencyOk b))
+  unfolding writeOf
+  write-number = numbers (not (knownAddress a)) (not (leb b 255)) (eqb a 0x16 && not (frequencyOk b)) (writtenTo s a b)
+
+  -- a bad address is 10 before a bad byte is 5
+  pub address-first : knownAddress a ≡ false → writeOf s a b ≡ refused 10
+  unfolding writeOf
+  address-first e = simp e
+
+  pub then-byte : knownAddress a ≡ true → leb b 255 ≡ false → writeOf s a b ≡ refused 5
+  unfolding writeOf
+  then-byte e f = simp (e, f)
+
+  pub then-frequency : knownAddress a ≡ true → leb b 255 ≡ true → (eqb a 0x16 && not (frequencyOk b)) ≡ true → writeOf s a b ≡ refused 11
+  unfolding writeOf
+  then-frequency e f g = simp (e, f, g)
+
+  pub else-stored : knownAddress a ≡ true → leb b 255 ≡ true → (eqb a 0x16 && not (frequencyOk b)) ≡ false → writeOf s a b ≡ accepted (writtenTo s a b)
+  unfolding writeOf
+  else-stored e f g = simp (e, f, g)
+
+  pub read-first : knownAddress a ≡ false → readOf s a ≡ refused 10
+  unfolding readOf
+  read-first e = simp e
+
+-- "only if CELL_PIN_OVERRIDE stood before the write": whatever the byte says
+pub needs-override : (g : Registers) (a b : ℕ) → g .celloverride ≡ false → countTaken g a b ≡ false
+needs-override g a b e = by (eqb a 0x1B)
+  where
+    by : (t : Bool) → (t && g .celloverride && not (eqb (b % 8) 0) && not (eqb (b % 8) (g .cells))) ≡ false
+    by true = simp e
+    by false = refl
+
+-- where it stood, a byte that clears it still brings its count
+pub takes-count : (g : Registers) (b : ℕ) → g .celloverride ≡ true → countTaken g 0x1B b ≡ (not (eqb (b % 8) 0) && not (eqb (b % 8) (g .cells)))
+takes-count g b e = simp e

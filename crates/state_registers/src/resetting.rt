@@ -1,0 +1,38 @@
+// The register reset.
+ghost use mathlib.Core.Path.{_≡_};
+ghost use Rattle.state_registers.specs.Resets.{restored, resetOf};
+use state_parts::profile::Profile;
+use state_parts::registers::Registers;
+use state_parts::state::State;
+use state_start::start_cycle;
+use state_start::start_registers;
+use state_start::start_settings;
+use state_start::start_watchdog;
+
+// The registers after a reset: the cell count and bit 7 of 0x19 stay.
+fn restore(p: Profile, g: Registers) -> Registers
+    ensures { λ r. ⌜ r ≡ restored p g ⌝ }
+{
+    let high = g.r19 / 128 * 128;
+    let start = start_registers(p);
+    let mut n = start;
+    n.r19 = high + start.r19 % 128;
+    n.cells = g.cells;
+    n
+}
+
+// The state after a register reset, before it settles.
+pub fn reset(s: State) -> State
+    ensures { λ r. ⌜ r ≡ resetOf s ⌝ }
+{
+    let settings = start_settings(s.profile, s.registers.cells);
+    let registers = restore(s.profile, s.registers);
+    let cycle = start_cycle();
+    let watchdog = start_watchdog();
+    let mut n = s;
+    n.settings = settings;
+    n.registers = registers;
+    n.cycle = cycle;
+    n.watchdog = watchdog;
+    n
+}

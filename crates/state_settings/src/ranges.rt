@@ -1,0 +1,123 @@
+// The fourteen settings' ranges, by one table.
+ghost use mathlib.Core.Path.{_≡_};
+ghost use Prim.Native.Nat.{_<_};
+ghost use Rattle.state_settings.specs.Ranges.{knownSetting, within, rangeOf, mayHold};
+
+// The least and the greatest value, and the step of those between.
+pub struct Range {
+    pub low: u32,
+    pub high: u32,
+    pub step: u32,
+}
+
+// Settings 1 to 14 at their numbers; nothing is in the range at 0.
+pub(crate) const RANGES: [Range; 15] = [
+    Range {
+        low: 1,
+        high: 0,
+        step: 1,
+    },
+    Range {
+        low: 2400,
+        high: 33000,
+        step: 10,
+    },
+    Range {
+        low: 40,
+        high: 3300,
+        step: 20,
+    },
+    Range {
+        low: 20,
+        high: 620,
+        step: 20,
+    },
+    Range {
+        low: 20,
+        high: 620,
+        step: 20,
+    },
+    Range {
+        low: 40,
+        high: 3300,
+        step: 20,
+    },
+    Range {
+        low: 3000,
+        high: 28000,
+        step: 20,
+    },
+    Range {
+        low: 0,
+        high: 3,
+        step: 1,
+    },
+    Range {
+        low: 0,
+        high: 3,
+        step: 1,
+    },
+    Range {
+        low: 0,
+        high: 1,
+        step: 1,
+    },
+    Range {
+        low: 0,
+        high: 1,
+        step: 1,
+    },
+    Range {
+        low: 0,
+        high: 1,
+        step: 1,
+    },
+    Range {
+        low: 0,
+        high: 1,
+        step: 1,
+    },
+    Range {
+        low: 0,
+        high: 1,
+        step: 1,
+    },
+    Range {
+        low: 0,
+        high: 4095,
+        step: 1,
+    },
+];
+
+// There is a setting of this number.
+pub fn known(number: u32) -> bool
+    ensures { λ r. ⌜ r ≡ knownSetting number ⌝ }
+{
+    (1 <= number) & (number <= 14)
+}
+
+// The table's row of a number.
+fn range_of(number: u32) -> Range
+    ensures { λ r. ⌜ r ≡ rangeOf number ⌝ }
+{
+    let i = (number % 15) as usize;
+    RANGES[i]
+}
+
+// A value of a range that lies on its step.
+pub(crate) fn in_range(range: Range, value: u32) -> bool
+    requires { ⌜ 0 < range .step ⌝ }
+    ensures { λ r. ⌜ r ≡ within range value ⌝ }
+{
+    (range.low <= value) & (value <= range.high) & (value % range.step == 0)
+}
+
+// A setting of this number may hold this value.
+pub fn may_hold(number: u32, value: u32) -> bool
+    ensures { λ r. ⌜ r ≡ mayHold number value ⌝ }
+{
+    let there = known(number);
+    let range = range_of(number);
+    let fits = in_range(range, value);
+    there & fits
+}

@@ -1,0 +1,13 @@
+-- `state_ok`: its calls' results, part by part.
+use Rattle.state_valid.specs.Holds.{stateOk}
+use Rattle.state_valid.proofs.holds.state_ok.Statement.{statement}
+use Rattle.state_valid.proofs.holds.state_ok.Tie as tie
+
+returns : tie.Need-returns
+unfolding stateOk
+returns c = simp (c .sample-ok .ensures, c .before .watchdog-ok .ensures, c .before .before .cycle-ok .ensures, c .before .before .before .registers-ok .ensures, c .before .before .before .before .settings-ok .ensures, c .before .before .before .before .before .profile-ok .ensures)
+
+pub state-ok-spec : {M : Type 1} → statement M
+state-ok-spec =
+    tie.close
+    (tie.spec (λ c κs. tt) (λ c κs. tt) (λ c κs. tt) (λ c κs. tt) (λ c κs. tt) (λ c κs. tt) returns)

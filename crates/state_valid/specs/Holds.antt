@@ -1,0 +1,58 @@
+-- 01: "a handed-in model's field outside what it may hold" (5). What each part may hold: each field by itself, in the range that accepted events can give it.
+use Prim.Native.Nat.{ℕ, _+_, _*_}
+use mathlib.Core.Bool.{Bool, not, _&&_, _||_}
+use lib.Dec.{leb, ltb, eqb}
+use lib.IntN.{pos, negsuc}
+use lib.Signed.{leZ}
+use Rattle.state_fields.specs.Rows.{shownOf, frequencyOk}
+use Rattle.state_parts.specs.Numbers.{phaseNumber}
+use Rattle.state_parts.specs.declared.cycle.Cycle.{Cycle}
+use Rattle.state_parts.specs.declared.phase.Phase.{Phase}
+use Rattle.state_parts.specs.declared.profile.Profile.{Profile}
+use Rattle.state_parts.specs.declared.registers.Registers.{Registers}
+use Rattle.state_parts.specs.declared.sample.Sample.{Sample}
+use Rattle.state_parts.specs.declared.state.State.{State}
+use Rattle.state_parts.specs.declared.watchdog.Watchdog.{Watchdog}
+use Rattle.state_settings.specs.Kept.{settingsOk}
+
+-- "1 power-on | cell, vchg, ichg codes 0-7; ILIM ohms 0-33,000; stamp; cell ceiling 4,350-4,714; trickle, precharge, fast limits and watchdog period in seconds, 0-172,800"
+unfoldable pub profileOk : Profile → Bool
+profileOk p =
+    leb (p .cell) 7 && leb (p .vchg) 7 && leb (p .ichg) 7 && leb (p .ohms) 33000 && leb 4350 (p .ceiling) && leb (p .ceiling) 4714
+    && leb (p .trickle) 172800 && leb (p .precharge) 172800 && leb (p .fast) 172800 && leb (p .watchdog) 172800
+
+-- "5 observe | stamp; VIN, VBAT 0-45,000; IBAT -10,000 to 5,000; TS 0-100,000; bits 0-63"
+unfoldable pub sampleOk : Sample → Bool
+sampleOk x =
+    leb (x .input) 45000 && leb (x .pack) 45000 && leZ (negsuc 9999) (x .ibat) && leZ (x .ibat) (pos 5000) && leb (x .ts) 100000
+    && leb (x .bits) 63
+
+-- "Reserved .. bits ignore writes; reserved read 0": a byte that is held is what is shown of it
+abbrev pub byteOk : ℕ → ℕ → Bool
+byteOk address byte = eqb (shownOf address byte) byte
+
+unfoldable pub registersOk : Registers → Bool
+registersOk g =
+    byteOk 0x15 (g .r15) && byteOk 0x16 (g .r16) && byteOk 0x17 (g .r17) && byteOk 0x18 (g .r18) && byteOk 0x19 (g .r19)
+    && byteOk 0x1A (g .r1a) && frequencyOk (g .r16) && leb (g .cells) 7
+
+-- "A limit of s seconds is reached at 2,000s units; a limit 0 counts nothing." An observation is at most 3,600,000 ms ahead, so a stage passes its limit by less than
+-- 7,200,000 units; and then the stage isn't held, since the fault is.
+abbrev pub stageOk : ℕ → Bool → ℕ → Bool
+stageOk limit stage time =
+    (eqb limit 0 && eqb time 0) || (leb 1 limit && ltb time (limit * 2000 + 7200000) && (not stage || ltb time (limit * 2000)))
+
+-- "trickle, precharge; fast and taper share one"
+unfoldable pub cycleOk : Cycle → Profile → Phase → Bool
+cycleOk y p phase =
+    stageOk (p .trickle) (eqb (phaseNumber phase) 1) (y .trickle) && stageOk (p .precharge) (eqb (phaseNumber phase) 2) (y .precharge)
+    && stageOk (p .fast) (eqb (phaseNumber phase) 3 || eqb (phaseNumber phase) 4) (y .fast)
+
+-- "reaching its period expires it .. and it rests until service or a reset zeroes it": the count stands still at its period
+unfoldable pub watchdogOk : Watchdog → Profile → Bool
+watchdogOk w p = leb (w .count) (p .watchdog * 1000)
+
+unfoldable pub stateOk : State → Bool
+stateOk s =
+    profileOk (s .profile) && settingsOk (s .settings) && registersOk (s .registers) && cycleOk (s .cycle) (s .profile) (s .phase)
+    && watchdogOk (s .watchdog) (s .profile) && sampleOk (s .sample)

@@ -1,0 +1,105 @@
+// What each part of the state may hold.
+ghost use mathlib.Core.Path.{_≡_};
+ghost use Rattle.state_valid.specs.Holds.{profileOk, sampleOk, registersOk, cycleOk, watchdogOk, stateOk};
+ghost use Rattle.state_valid.specs.Holds.{byteOk, stageOk};
+use state_parts::cycle::Cycle;
+use state_parts::phase;
+use state_parts::phase::Phase;
+use state_parts::profile::Profile;
+use state_parts::registers::Registers;
+use state_parts::sample::Sample;
+use state_parts::state::State;
+use state_parts::watchdog::Watchdog;
+use state_settings::kept::settings_ok;
+
+// A power-on's numbers in their ranges.
+pub fn profile_ok(p: Profile) -> bool
+    ensures { λ r. ⌜ r ≡ profileOk p ⌝ }
+{
+    (p.cell <= 7)
+        & (p.vchg <= 7)
+        & (p.ichg <= 7)
+        & (p.ohms <= 33000)
+        & (4350 <= p.ceiling)
+        & (p.ceiling <= 4714)
+        & (p.trickle <= 172800)
+        & (p.precharge <= 172800)
+        & (p.fast <= 172800)
+        & (p.watchdog <= 172800)
+}
+
+// An observation's numbers in their ranges.
+pub fn sample_ok(x: Sample) -> bool
+    ensures { λ r. ⌜ r ≡ sampleOk x ⌝ }
+{
+    (x.input <= 45000)
+        & (x.pack <= 45000)
+        & (-10000 <= x.ibat)
+        & (x.ibat <= 5000)
+        & (x.ts <= 100000)
+        & (x.bits <= 63)
+}
+
+// A byte without reserved bits.
+fn byte_ok(address: u32, byte: u8) -> bool
+    ensures { λ r. ⌜ r ≡ byteOk address byte ⌝ }
+{
+    state_fields::shown(address, byte) == byte
+}
+
+// The registers hold what they may.
+pub fn registers_ok(g: Registers) -> bool
+    ensures { λ r. ⌜ r ≡ registersOk g ⌝ }
+{
+    let count = g.cells <= 7;
+    let b15 = byte_ok(0x15, g.r15);
+    let b16 = byte_ok(0x16, g.r16);
+    let b17 = byte_ok(0x17, g.r17);
+    let b18 = byte_ok(0x18, g.r18);
+    let b19 = byte_ok(0x19, g.r19);
+    let b1a = byte_ok(0x1A, g.r1a);
+    let frequency = state_fields::frequency_ok(g.r16);
+    b15 & b16 & b17 & b18 & b19 & b1a & frequency & count
+}
+
+// A stage's time by its limit, and by whether the stage is held.
+fn stage_ok(limit: u32, stage: bool, time: u32) -> bool
+    ensures { λ r. ⌜ r ≡ stageOk limit stage time ⌝ }
+{
+    let top = (limit as u64) * 2000;
+    let used = time as u64;
+    ((limit == 0) & (time == 0)) | ((1 <= limit) & (used < top + 7200000) & (!stage | (used < top)))
+}
+
+// The stages' times hold what they may.
+pub fn cycle_ok(y: Cycle, p: Profile, phase: Phase) -> bool
+    ensures { λ r. ⌜ r ≡ cycleOk y p phase ⌝ }
+{
+    let n = phase::number(phase);
+    let trickle = stage_ok(p.trickle, n == 1, y.trickle);
+    let precharge = stage_ok(p.precharge, n == 2, y.precharge);
+    let fast = stage_ok(p.fast, (n == 3) | (n == 4), y.fast);
+    trickle & precharge & fast
+}
+
+// The watchdog's count is at most its period.
+pub fn watchdog_ok(w: Watchdog, p: Profile) -> bool
+    ensures { λ r. ⌜ r ≡ watchdogOk w p ⌝ }
+{
+    let most = (p.watchdog as u64) * 1000;
+    (w.count as u64) <= most
+}
+
+// The state holds what it may.
+pub fn state_ok(s: State) -> bool
+    ensures { λ r. ⌜ r ≡ stateOk s ⌝ }
+{
+    let phase = s.phase;
+    let p = profile_ok(s.profile);
+    let t = settings_ok(s.settings);
+    let g = registers_ok(s.registers);
+    let y = cycle_ok(s.cycle, s.profile, phase);
+    let w = watchdog_ok(s.watchdog, s.profile);
+    let x = sample_ok(s.sample);
+    p & t & g & y & w & x
+}

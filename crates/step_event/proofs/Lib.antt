@@ -1,0 +1,10 @@
+-- The laws of the crate `step_event`.
+mod Clocks
+mod Events
+pub mod Numbered
+pub mod Settles
+pub mod Observes
+pub mod Keeps
+mod Walkings
+pub mod Turning
+pub mod Joining

@@ -1,0 +1,3 @@
+-- The laws of the crate `step_replay`.
+pub mod Moves
+pub mod Rests

@@ -1,0 +1,3 @@
+-- The definitions of the crate `step_replay`.
+pub mod Rests
+pub mod Promises

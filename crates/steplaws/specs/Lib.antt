@@ -1,3 +1,0 @@
--- The definitions of the crate `steplaws`.
-pub mod Rows
-pub mod Theorems

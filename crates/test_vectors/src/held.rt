@@ -1,0 +1,82 @@
+// What the model holds after a record: its number, the eight registers, the fourteen settings, the band, STAT and the flags that the record handed back.
+use crate::say;
+use libc::STDOUT_FILENO;
+use report_state::answer::Stat;
+use report_state::stat;
+use state_parts::band::Band;
+use state_parts::flags;
+use state_parts::state::Model;
+use state_parts::state::State;
+use state_registers::reading;
+use state_registers::reading::ReadAnswer;
+use state_settings::numbered;
+use step_event::walking::Met;
+
+fn register(s: State, address: u32) {
+    match reading::read(s, address) {
+        ReadAnswer::Byte(b) => say::number(b as u32),
+        ReadAnswer::Refused(_) => say::text(b"? "),
+    }
+}
+
+fn registers(s: State) {
+    let mut address: u32 = 0x15;
+    while address < 0x1D {
+        register(s, address);
+        address += 1;
+    }
+}
+
+fn settings(s: State) {
+    let held = s.settings;
+    let mut number: u32 = 1;
+    while number < 15 {
+        say::number(numbered::held(held, number));
+        number += 1;
+    }
+}
+
+fn band(b: Band) {
+    match b {
+        Band::Normal => say::text(b"normal "),
+        Band::Cold => say::text(b"cold "),
+        Band::Cool => say::text(b"cool "),
+        Band::Warm => say::text(b"warm "),
+        Band::Hot => say::text(b"hot "),
+    }
+}
+
+fn pin(s: Stat) {
+    match s {
+        Stat::Low => say::text(b"low "),
+        Stat::Blinking => say::text(b"blinking "),
+        Stat::High => say::text(b"high "),
+    }
+}
+
+fn state(s: State) {
+    say::text(b": ");
+    registers(s);
+    say::text(b": ");
+    settings(s);
+    say::text(b": ");
+    let b = s.band;
+    band(b);
+    pin(stat::stat(s));
+}
+
+pub(crate) fn print(m: Met) {
+    let handed = m.handed;
+    let number = m.line.number;
+    let walk = m.walk;
+    let model = walk.model;
+    match model {
+        Model::Off => {}
+        Model::On(s) => {
+            say::number(number);
+            state(s);
+            io::print_decimal(STDOUT_FILENO, flags::number(handed) as u64);
+            say::text(b"\n");
+        }
+    }
+}
