@@ -1,0 +1,40 @@
+-- What is held of an event whose numbers are in their ranges is what a held part may be.
+use mathlib.Core.Path.{_≡_, refl}
+use mathlib.Core.Bool.{Bool, true, false}
+use Rattle.base.specs.Pick.{pick}
+use Rattle.log_event.specs.declared.Event.{Event}
+use Rattle.log_event.specs.declared.Event.the-variants as event
+use Rattle.log_event.specs.declared.spelled.SpelledProfile.{SpelledProfile}
+use Rattle.log_event.specs.declared.spelled.SpelledSample.{SpelledSample}
+use Rattle.state_valid.specs.Holds.{profileOk, sampleOk}
+use Rattle.step_turns.specs.Ranges.{profileInRange, sampleInRange}
+use Rattle.step_turns.specs.Turns.{heldProfile, heldSample, turnOf}
+use Rattle.step_turns.specs.Promises.{TurnFits, EveryTurnFits}
+use Rattle.step_turns.specs.declared.later.Later.the-variants.{Observe}
+use Rattle.step_turns.specs.declared.turn.Turn.the-variants.{Opens, Follows, OpensOutside, FollowsOutside}
+
+pub profile-held : (p : SpelledProfile) → profileOk (heldProfile p) ≡ profileInRange p
+unfolding profileOk profileInRange
+profile-held p = refl
+
+pub sample-held : (x : SpelledSample) → sampleOk (heldSample x) ≡ sampleInRange x
+unfolding sampleOk sampleInRange
+sample-held x = refl
+
+opens-by : (p : SpelledProfile) (b : Bool) → profileOk (heldProfile p) ≡ b → TurnFits (pick b (Opens (heldProfile p)) OpensOutside)
+opens-by p true e = e
+opens-by p false e = tt
+
+observes-by : (x : SpelledSample) (b : Bool) → sampleOk (heldSample x) ≡ b → TurnFits (pick b (Follows (Observe (heldSample x))) FollowsOutside)
+observes-by x true e = e
+observes-by x false e = tt
+
+pub every-turn-fits : EveryTurnFits
+unfolding turnOf
+every-turn-fits (event.PowerOn p) = opens-by p (profileInRange p) (profile-held p)
+every-turn-fits (event.Set number value) = tt
+every-turn-fits (event.Write address byte) = tt
+every-turn-fits event.TakeFlags = tt
+every-turn-fits (event.Observe x) = observes-by x (sampleInRange x) (sample-held x)
+every-turn-fits event.Service = tt
+every-turn-fits event.Reset = tt

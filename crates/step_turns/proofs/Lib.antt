@@ -1,0 +1,2 @@
+-- The laws of the crate `step_turns`.
+pub mod Fitting

@@ -1,0 +1,19 @@
+-- 01, "Events and their log spelling": the ranges of kind 1's and kind 5's numbers. 5: "a number outside kind 1, 3 or 5's ranges above". Kind 3's byte is judged after its address.
+use mathlib.Core.Bool.{Bool, _&&_}
+use lib.Dec.{leb}
+use lib.IntN.{pos, negsuc}
+use lib.Signed.{leZ}
+use Rattle.log_event.specs.declared.spelled.SpelledProfile.{SpelledProfile}
+use Rattle.log_event.specs.declared.spelled.SpelledSample.{SpelledSample}
+
+-- "1 power-on | cell, vchg, ichg codes 0-7; ILIM ohms 0-33,000; stamp; cell ceiling 4,350-4,714; trickle, precharge, fast limits and watchdog period in seconds, 0-172,800"
+unfoldable pub profileInRange : SpelledProfile → Bool
+profileInRange p =
+    leb (p .cell) 7 && leb (p .vchg) 7 && leb (p .ichg) 7 && leb (p .ohms) 33000 && leb 4350 (p .ceiling) && leb (p .ceiling) 4714
+    && leb (p .trickle) 172800 && leb (p .precharge) 172800 && leb (p .fast) 172800 && leb (p .watchdog) 172800
+
+-- "5 observe | stamp; VIN, VBAT 0-45,000; IBAT -10,000 to 5,000; TS 0-100,000; bits 0-63"
+unfoldable pub sampleInRange : SpelledSample → Bool
+sampleInRange x =
+    leb (x .input) 45000 && leb (x .pack) 45000 && leZ (negsuc 9999) (x .ibat) && leZ (x .ibat) (pos 5000) && leb (x .ts) 100000
+    && leb (x .bits) 63

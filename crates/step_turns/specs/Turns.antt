@@ -1,0 +1,42 @@
+-- What an event does to a model: it opens a run with a profile, or it follows. A kind that says a known thing in another way is a clause here, and no definition above has a word of it.
+use Rattle.base.specs.Pick.{pick}
+use Rattle.log_event.specs.declared.Event.{Event}
+use Rattle.log_event.specs.declared.Event.the-variants as event
+use Rattle.log_event.specs.declared.spelled.SpelledProfile.{SpelledProfile}
+use Rattle.log_event.specs.declared.spelled.SpelledSample.{SpelledSample}
+use Rattle.state_parts.specs.declared.profile.Profile.{Profile}
+use Rattle.state_parts.specs.declared.sample.Sample.{Sample}
+use Rattle.step_turns.specs.Ranges.{profileInRange, sampleInRange}
+use Rattle.step_turns.specs.declared.later.Later.{Later}
+use Rattle.step_turns.specs.declared.later.Later.the-variants.{Set, Write, TakeFlags, Observe, Service, Reset}
+use Rattle.step_turns.specs.declared.turn.Turn.{Turn}
+use Rattle.step_turns.specs.declared.turn.Turn.the-variants.{Opens, Follows, OpensOutside, FollowsOutside}
+
+-- what is held of a power-on
+abbrev pub heldProfile : SpelledProfile → Profile
+heldProfile p = record {
+  cell = p .cell;
+  vchg = p .vchg;
+  ichg = p .ichg;
+  ohms = p .ohms;
+  stamp = p .stamp;
+  ceiling = p .ceiling;
+  trickle = p .trickle;
+  precharge = p .precharge;
+  fast = p .fast;
+  watchdog = p .watchdog;
+}
+
+-- what is held of an observation
+abbrev pub heldSample : SpelledSample → Sample
+heldSample x = record { stamp = x .stamp; input = x .input; pack = x .pack; ibat = x .ibat; ts = x .ts; bits = x .bits }
+
+-- "1 power-on", "2 set", "3 write", "4 take flags", "5 observe", "6 service watchdog", "7 register reset"
+unfoldable pub turnOf : Event → Turn
+turnOf (event.PowerOn p) = pick (profileInRange p) (Opens (heldProfile p)) OpensOutside
+turnOf (event.Set number value) = Follows (Set number value)
+turnOf (event.Write address byte) = Follows (Write address byte)
+turnOf event.TakeFlags = Follows TakeFlags
+turnOf (event.Observe x) = pick (sampleInRange x) (Follows (Observe (heldSample x))) FollowsOutside
+turnOf event.Service = Follows Service
+turnOf event.Reset = Follows Reset

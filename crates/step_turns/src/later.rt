@@ -1,0 +1,13 @@
+// What may follow a power-on.
+use state_parts::sample::Sample;
+
+pub enum Later {
+    // a setting's number and its value
+    Set(u32, u32),
+    // a register's address and the byte
+    Write(u32, u32),
+    TakeFlags,
+    Observe(Sample),
+    Service,
+    Reset,
+}

@@ -1,0 +1,33 @@
+// The ranges of kind 1's and kind 5's numbers.
+ghost use mathlib.Core.Path.{_≡_};
+ghost use Rattle.step_turns.specs.Ranges.{profileInRange, sampleInRange};
+use log_event::spelled::SpelledProfile;
+use log_event::spelled::SpelledSample;
+
+// A power-on's numbers in their ranges.
+pub fn profile_in_range(p: SpelledProfile) -> bool
+    ensures { λ r. ⌜ r ≡ profileInRange p ⌝ }
+{
+    (p.cell <= 7)
+        & (p.vchg <= 7)
+        & (p.ichg <= 7)
+        & (p.ohms <= 33000)
+        & (4350 <= p.ceiling)
+        & (p.ceiling <= 4714)
+        & (p.trickle <= 172800)
+        & (p.precharge <= 172800)
+        & (p.fast <= 172800)
+        & (p.watchdog <= 172800)
+}
+
+// An observation's numbers in their ranges.
+pub fn sample_in_range(x: SpelledSample) -> bool
+    ensures { λ r. ⌜ r ≡ sampleInRange x ⌝ }
+{
+    (x.input <= 45000)
+        & (x.pack <= 45000)
+        & (-10000 <= x.ibat)
+        & (x.ibat <= 5000)
+        & (x.ts <= 100000)
+        & (x.bits <= 63)
+}

@@ -1,0 +1,77 @@
+// An event as what it does to a model.
+ghost use mathlib.Core.Path.{_≡_};
+ghost use Rattle.step_turns.specs.Turns.{heldProfile, heldSample, turnOf};
+use crate::later::Later;
+use crate::ranges;
+use log_event::Event;
+use log_event::spelled::SpelledProfile;
+use log_event::spelled::SpelledSample;
+use state_parts::profile::Profile;
+use state_parts::sample::Sample;
+
+// It opens a run with a held profile, or it follows; or a number of it is outside its kind's range.
+pub enum Turn {
+    Opens(Profile),
+    Follows(Later),
+    OpensOutside,
+    FollowsOutside,
+}
+
+// The profile that is held of a power-on.
+fn held_profile(p: SpelledProfile) -> Profile
+    ensures { λ r. ⌜ r ≡ heldProfile p ⌝ }
+{
+    Profile {
+        cell: p.cell,
+        vchg: p.vchg,
+        ichg: p.ichg,
+        ohms: p.ohms,
+        stamp: p.stamp,
+        ceiling: p.ceiling,
+        trickle: p.trickle,
+        precharge: p.precharge,
+        fast: p.fast,
+        watchdog: p.watchdog,
+    }
+}
+
+// The sample that is held of an observation.
+fn held_sample(x: SpelledSample) -> Sample
+    ensures { λ r. ⌜ r ≡ heldSample x ⌝ }
+{
+    Sample {
+        stamp: x.stamp,
+        input: x.input,
+        pack: x.pack,
+        ibat: x.ibat,
+        ts: x.ts,
+        bits: x.bits,
+    }
+}
+
+// What an event does.
+pub fn turn_of(e: Event) -> Turn
+    ensures { λ r. ⌜ r ≡ turnOf e ⌝ }
+{
+    match e {
+        Event::PowerOn(p) => {
+            if ranges::profile_in_range(p) {
+                Turn::Opens(held_profile(p))
+            } else {
+                Turn::OpensOutside
+            }
+        }
+        Event::Set(number, value) => Turn::Follows(Later::Set(number, value)),
+        Event::Write(address, byte) => Turn::Follows(Later::Write(address, byte)),
+        Event::TakeFlags => Turn::Follows(Later::TakeFlags),
+        Event::Observe(x) => {
+            if ranges::sample_in_range(x) {
+                Turn::Follows(Later::Observe(held_sample(x)))
+            } else {
+                Turn::FollowsOutside
+            }
+        }
+        Event::Service => Turn::Follows(Later::Service),
+        Event::Reset => Turn::Follows(Later::Reset),
+    }
+}
