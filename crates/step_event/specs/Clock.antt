@@ -5,6 +5,7 @@ use lib.Dec.{eqb}
 use Rattle.base.specs.Pick.{pick}
 use Rattle.base.specs.Stamps.{elapsedOf}
 use Rattle.state_parts.specs.Numbers.{phaseNumber}
+use Rattle.state_parts.specs.With.{withCycle, withRegisters, withWatchdog, withSample}
 use Rattle.state_parts.specs.declared.cycle.Cycle.{Cycle}
 use Rattle.state_parts.specs.declared.phase.Phase.{Phase}
 use Rattle.state_parts.specs.declared.profile.Profile.{Profile}
@@ -57,15 +58,10 @@ observedOf s x =
     let ms = elapsedOf (s .sample .stamp) (x .stamp) in
     let dog = countedOf (s .profile) (s .watchdog) ms in
     let expires = not (expiredOf (s .profile) (s .watchdog)) && expiredOf (s .profile) dog in
-    record {
-      profile = s .profile;
-      settings = s .settings;
-      registers = clearedIf expires (s .registers);
-      latches = s .latches;
-      cycle = timesOf (s .profile) (s .phase) (unitsOf (s .sample) ms) (s .cycle);
-      watchdog = dog;
-      sample = x;
-      phase = s .phase;
-      band = s .band;
-      flags = s .flags;
-    }
+    withSample
+    (withWatchdog
+    (withRegisters
+    (withCycle s (timesOf (s .profile) (s .phase) (unitsOf (s .sample) ms) (s .cycle)))
+    (clearedIf expires (s .registers)))
+    dog)
+    x

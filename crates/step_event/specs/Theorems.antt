@@ -5,7 +5,7 @@ use mathlib.Core.Logic.{_≢_}
 use Rattle.state_parts.specs.Edges.{noFlags}
 use Rattle.state_parts.specs.declared.state.Model.{Model}
 use Rattle.log_event.specs.declared.Event.{Event}
-use Rattle.step_kinds.specs.Plain.{Outcome}
+use Rattle.step_kinds.specs.Answers.{Outcome}
 use Rattle.step_event.specs.Steps.{modelOk, stepOf}
 
 -- "A refusal returns its number, place and the old state." "An event given outside a log has place 0." "Refused records pulse 0"; and nothing is handed back

@@ -2,8 +2,9 @@
 ghost use mathlib.Core.Path.{_≡_};
 ghost use mathlib.Core.Bool.{true};
 ghost use Rattle.state_valid.specs.Holds.{stateOk};
-ghost use Rattle.step_kinds.specs.Plain.{steppedTold};
-ghost use Rattle.step_event.specs.Steps.{observeOf, movedOf, firstOf, modelOk, stepOf};
+ghost use Rattle.step_kinds.specs.Answers.{steppedTold};
+ghost use Rattle.step_kinds.specs.Changes.{changeTold};
+ghost use Rattle.step_event.specs.Steps.{observeOf, followedOf, movedOf, firstOf, changeOf, modelOk, nothingSeen, seenOn, turnedBy, stepOf};
 use crate::clock;
 use base::refusal::Refusal;
 use base::stamp;
@@ -11,56 +12,67 @@ use log_event::Event;
 use state_parts::sample::Sample;
 use state_parts::state::Model;
 use state_parts::state::State;
+use state_registers::resetting;
 use state_valid::holds;
+use step_flags::between;
+use step_flags::between::Seen;
 use step_kinds::answer::Stepped;
-use step_kinds::answer::accepted;
-use step_kinds::answer::refused;
+use step_kinds::change::Change;
+use step_kinds::change::Way;
 use step_kinds::finish;
 use step_kinds::plain;
+use step_turns::later::Later;
+use step_turns::turn;
+use step_turns::turn::Turn;
 
-fn observe(s: State, x: Sample) -> Stepped
+fn observe(s: State, x: Sample) -> Change
     requires { ⌜ stateOk s ≡ true ⌝ }
-    ensures { λ r. ⌜ steppedTold r ≡ observeOf s x ⌝ }
+    ensures { λ r. ⌜ changeTold r ≡ observeOf s x ⌝ }
 {
-    if !holds::sample_ok(x) {
-        return refused(Refusal::OutOfRange, s);
-    }
     let ms = stamp::elapsed(s.sample.stamp, x.stamp);
     if 3600000 < ms {
-        return refused(Refusal::StampAhead, s);
+        return Change::Refused(Refusal::StampAhead);
     }
-    let written = clock::observed(s, x);
-    accepted(finish::finish(s, written, true))
+    Change::Made(clock::observed(s, x), Way::Observes)
+}
+
+// What follows a power-on, on a model that holds what it may.
+fn follow(s: State, e: Later) -> Change
+    requires { ⌜ stateOk s ≡ true ⌝ }
+    ensures { λ r. ⌜ changeTold r ≡ followedOf s e ⌝ }
+{
+    match e {
+        Later::Set(number, value) => plain::set(s, number, value),
+        Later::Write(address, byte) => plain::write(s, address, byte),
+        Later::TakeFlags => Change::Made(s, Way::Takes),
+        Later::Observe(x) => observe(s, x),
+        Later::Service => Change::Made(plain::serviced(s), Way::Plain),
+        Later::Reset => Change::Made(resetting::reset(s), Way::Plain),
+    }
 }
 
 // An event on a model that is on and holds what it may.
-fn moved(s: State, e: Event) -> Stepped
+fn moved(s: State, t: Turn) -> Change
     requires { ⌜ stateOk s ≡ true ⌝ }
-    ensures { λ r. ⌜ steppedTold r ≡ movedOf s e ⌝ }
+    ensures { λ r. ⌜ changeTold r ≡ movedOf s t ⌝ }
 {
-    match e {
-        Event::PowerOn(p) => plain::power_on(Model::On(s), p),
-        Event::Set(number, value) => plain::set(s, number, value),
-        Event::Write(address, byte) => plain::write(s, address, byte),
-        Event::TakeFlags => plain::take_flags(s),
-        Event::Observe(x) => observe(s, x),
-        Event::Service => plain::service(s),
-        Event::Reset => plain::reset(s),
+    match t {
+        Turn::Opens(p) => plain::opened(p),
+        Turn::Follows(e) => follow(s, e),
+        Turn::OpensOutside => Change::Refused(Refusal::OutOfRange),
+        Turn::FollowsOutside => Change::Refused(Refusal::OutOfRange),
     }
 }
 
 // An event on a model that is off.
-fn first(e: Event) -> Stepped
-    ensures { λ r. ⌜ steppedTold r ≡ firstOf e ⌝ }
+fn first(t: Turn) -> Change
+    ensures { λ r. ⌜ changeTold r ≡ firstOf t ⌝ }
 {
-    match e {
-        Event::PowerOn(p) => plain::power_on(Model::Off, p),
-        Event::Set(_, _) => Stepped::Refused(Refusal::NotPowered, 0, Model::Off),
-        Event::Write(_, _) => Stepped::Refused(Refusal::NotPowered, 0, Model::Off),
-        Event::TakeFlags => Stepped::Refused(Refusal::NotPowered, 0, Model::Off),
-        Event::Observe(_) => Stepped::Refused(Refusal::NotPowered, 0, Model::Off),
-        Event::Service => Stepped::Refused(Refusal::NotPowered, 0, Model::Off),
-        Event::Reset => Stepped::Refused(Refusal::NotPowered, 0, Model::Off),
+    match t {
+        Turn::Opens(p) => plain::opened(p),
+        Turn::Follows(_) => Change::Refused(Refusal::NotPowered),
+        Turn::OpensOutside => Change::Refused(Refusal::OutOfRange),
+        Turn::FollowsOutside => Change::Refused(Refusal::NotPowered),
     }
 }
 
@@ -74,21 +86,71 @@ pub fn model_ok(m: Model) -> bool
     }
 }
 
+// What an event writes, on a model of which it is known whether it holds what it may.
+fn change(ok: bool, m: Model, t: Turn) -> Change
+    requires { ⌜ ok ≡ modelOk m ⌝ }
+    ensures { λ r. ⌜ changeTold r ≡ changeOf m t ⌝ }
+{
+    match m {
+        Model::Off => first(t),
+        Model::On(s) => {
+            if ok {
+                moved(s, t)
+            } else {
+                Change::Refused(Refusal::OutOfRange)
+            }
+        }
+    }
+}
+
+// Of a model that is off.
+fn nothing_seen() -> Seen
+    ensures { λ r. ⌜ r ≡ nothingSeen ⌝ }
+{
+    Seen {
+        good: false,
+        iindpm: false,
+        vindpm: false,
+        thermal: false,
+        expired: false,
+        phase: 0,
+        band: 0,
+        inputover: false,
+        shutdown: false,
+        packover: false,
+        limit: false,
+    }
+}
+
+// What flags are edges of.
+fn seen_on(m: Model) -> Seen
+    ensures { λ r. ⌜ r ≡ seenOn m ⌝ }
+{
+    match m {
+        Model::Off => nothing_seen(),
+        Model::On(s) => between::seen_in(s),
+    }
+}
+
+// What a turn comes to, on a model of which it is known whether it holds what it may.
+fn turned(ok: bool, m: Model, t: Turn) -> Stepped
+    requires { ⌜ ok ≡ modelOk m ⌝ }
+    ensures { λ r. ⌜ steppedTold r ≡ turnedBy m t ⌝ }
+{
+    let before = seen_on(m);
+    let made = change(ok, m, t);
+    match made {
+        Change::Made(written, way) => finish::finish(before, written, way),
+        Change::Refused(r) => Stepped::Refused(r, 0, m),
+    }
+}
+
 // An event on a model of which it is known whether it holds what it may.
 pub(crate) fn step_known(ok: bool, m: Model, e: Event) -> Stepped
     requires { ⌜ ok ≡ modelOk m ⌝ }
     ensures { λ r. ⌜ steppedTold r ≡ stepOf m e ⌝ }
 {
-    match m {
-        Model::Off => first(e),
-        Model::On(s) => {
-            if ok {
-                moved(s, e)
-            } else {
-                refused(Refusal::OutOfRange, s)
-            }
-        }
-    }
+    turned(ok, m, turn::turn_of(e))
 }
 
 // One event on the model.

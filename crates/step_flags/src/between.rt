@@ -1,6 +1,6 @@
-// The edges between two states.
+// What flags are edges of, as it stands in one state; and the edges between two states.
 ghost use mathlib.Core.Path.{_≡_};
-ghost use Rattle.step_flags.specs.Edges.{begins, expiresOf, reachesOf, phaseChanges, bandChanges, seenOf, edgesOf};
+ghost use Rattle.step_flags.specs.Edges.{seenOf, edgesOf};
 use crate::expiry;
 use settle_levels::comparators;
 use settle_permission::bits;
@@ -8,109 +8,71 @@ use settle_permission::limits;
 use state_parts::band;
 use state_parts::flags::Flags;
 use state_parts::phase;
-use state_parts::sample::Sample;
 use state_parts::state::State;
 
-// The sample's edges.
-struct Seen {
-    iindpm: bool,
-    vindpm: bool,
-    thermal: bool,
-    shutdown: bool,
+pub struct Seen {
+    pub good: bool,
+    pub iindpm: bool,
+    pub vindpm: bool,
+    pub thermal: bool,
+    pub expired: bool,
+    pub phase: u32,
+    pub band: u32,
+    pub inputover: bool,
+    pub shutdown: bool,
+    pub packover: bool,
+    pub limit: bool,
 }
 
-// It was not, and now is.
-fn begins(was: bool, is: bool) -> bool
-    ensures { λ r. ⌜ r ≡ begins was is ⌝ }
+// What is seen of a state.
+pub fn seen_in(s: State) -> Seen
+    ensures { λ r. ⌜ r ≡ seenOf s ⌝ }
 {
-    !was & is
-}
-
-// The watchdog's expiry begins.
-fn expires(before: State, after: State) -> bool
-    ensures { λ r. ⌜ r ≡ expiresOf before after ⌝ }
-{
-    let was = expiry::expired(before.profile, before.watchdog);
-    let is = expiry::expired(after.profile, after.watchdog);
-    begins(was, is)
-}
-
-// A first limit is reached.
-fn reaches(before: State, after: State) -> bool
-    ensures { λ r. ⌜ r ≡ reachesOf before after ⌝ }
-{
-    let was = limits::any_reached(before.profile, before.cycle);
-    let is = limits::any_reached(after.profile, after.cycle);
-    begins(was, is)
-}
-
-// Another phase.
-fn phase_changes(before: State, after: State) -> bool
-    ensures { λ r. ⌜ r ≡ phaseChanges before after ⌝ }
-{
-    let old = before.phase;
-    let new = after.phase;
-    let was = phase::number(old);
-    let is = phase::number(new);
-    was != is
-}
-
-// Another band.
-fn band_changes(before: State, after: State) -> bool
-    ensures { λ r. ⌜ r ≡ bandChanges before after ⌝ }
-{
-    let old = before.band;
-    let new = after.band;
-    let was = band::number(old);
-    let is = band::number(new);
-    was != is
-}
-
-// A bit of the sample begins.
-fn bits_begin(was: Sample, is: Sample) -> Seen
-    ensures { λ r. ⌜ r ≡ seenOf was is ⌝ }
-{
-    let a = bits::iindpm(was);
-    let b = bits::iindpm(is);
-    let c = bits::vindpm(was);
-    let d = bits::vindpm(is);
-    let e = bits::thermal(was);
-    let f = bits::thermal(is);
-    let g = bits::shutdown(was);
-    let h = bits::shutdown(is);
+    let profile = s.profile;
+    let sample = s.sample;
+    let latches = s.latches;
+    let at = s.phase;
+    let held = s.band;
+    let good = comparators::input_good(latches);
+    let iindpm = bits::iindpm(sample);
+    let vindpm = bits::vindpm(sample);
+    let thermal = bits::thermal(sample);
+    let shutdown = bits::shutdown(sample);
+    let expired = expiry::expired(profile, s.watchdog);
+    let limit = limits::any_reached(profile, s.cycle);
+    let phase = phase::number(at);
+    let band = band::number(held);
     Seen {
-        iindpm: !a & b,
-        vindpm: !c & d,
-        thermal: !e & f,
-        shutdown: !g & h,
+        good,
+        iindpm,
+        vindpm,
+        thermal,
+        expired,
+        phase,
+        band,
+        inputover: latches.inputover,
+        shutdown,
+        packover: latches.packover,
+        limit,
     }
 }
 
 // One flag for each of the twelve edges.
-pub fn between(before: State, after: State) -> Flags
-    ensures { λ r. ⌜ r ≡ edgesOf before after ⌝ }
+pub fn between(was: Seen, is: Seen) -> Flags
+    ensures { λ r. ⌜ r ≡ edgesOf was is ⌝ }
 {
-    let old = before.latches;
-    let new = after.latches;
-    let was = comparators::input_good(old);
-    let is = comparators::input_good(new);
-    let seen = bits_begin(before.sample, after.sample);
-    let expired = expires(before, after);
-    let limit = reaches(before, after);
-    let phase = phase_changes(before, after);
-    let band = band_changes(before, after);
     Flags {
-        good: !was & is,
-        lost: !is & was,
-        iindpm: seen.iindpm,
-        vindpm: seen.vindpm,
-        thermal: seen.thermal,
-        expired,
-        phase,
-        band,
-        inputover: !old.inputover & new.inputover,
-        shutdown: seen.shutdown,
-        packover: !old.packover & new.packover,
-        limit,
+        good: !was.good & is.good,
+        lost: !is.good & was.good,
+        iindpm: !was.iindpm & is.iindpm,
+        vindpm: !was.vindpm & is.vindpm,
+        thermal: !was.thermal & is.thermal,
+        expired: !was.expired & is.expired,
+        phase: was.phase != is.phase,
+        band: was.band != is.band,
+        inputover: !was.inputover & is.inputover,
+        shutdown: !was.shutdown & is.shutdown,
+        packover: !was.packover & is.packover,
+        limit: !was.limit & is.limit,
     }
 }

@@ -1,2 +1,2 @@
 -- The laws of the crate `step_kinds`.
-mod Events
+mod Writing

@@ -1,29 +1,55 @@
 -- 01: what every accepted event ends with. "4. Settle." "Other accepted events settle on the held sample". Flags "on an edge between the state before the event and the
 -- state after settling". "One pulse per event with an unmasked edge, by the masks after it."
-use mathlib.Core.Bool.{Bool}
-use Rattle.state_parts.specs.Edges.{merged, pulseOf}
+use mathlib.Core.Bool.{Bool, true, false}
+use Rattle.state_parts.specs.Edges.{merged, pulseOf, noFlags, powerOnFlags}
+use Rattle.state_parts.specs.With.{withFlags}
 use Rattle.state_parts.specs.declared.flags.Flags.{Flags}
 use Rattle.state_parts.specs.declared.state.State.{State}
-use Rattle.step_flags.specs.Edges.{edgesOf}
+use Rattle.state_parts.specs.declared.state.Model.the-variants.{On}
 use Rattle.settle_all.specs.Settle.{settleOf}
-use Rattle.step_kinds.specs.declared.finish.Finished.{Finished}
+use Rattle.step_flags.specs.Edges.{seenOf, edgesOf}
+use Rattle.step_flags.specs.declared.between.Seen.{Seen}
+use Rattle.step_kinds.specs.Answers.{Outcome}
+use Rattle.step_kinds.specs.declared.change.Way.{Way}
+use Rattle.step_kinds.specs.declared.change.Way.the-variants.{Plain, Observes, Takes, Powers}
 
-unfoldable pub withFlags : State → Flags → State
-withFlags s f = record {
-  profile = s .profile;
-  settings = s .settings;
-  registers = s .registers;
-  latches = s .latches;
-  cycle = s .cycle;
-  watchdog = s .watchdog;
-  sample = s .sample;
-  phase = s .phase;
-  band = s .band;
-  flags = f;
-}
+-- "Done begins, and 5 is reported, only on an observation"
+abbrev pub observing : Way → Bool
+observing Plain = false
+observing Observes = true
+observing Takes = false
+observing Powers = false
 
-unfoldable pub finishOf : State → State → Bool → Finished
-finishOf before written observed =
-    let after = settleOf written observed in
-    let edges = edgesOf before after in
-    record { state = withFlags after (merged (before .flags) edges); pulse = pulseOf edges (after .settings .masks) }
+-- "take flags | none; hands back the held flags and clears them", those of its own settling too. "Power-on sets flags to 32"
+abbrev pub keptBy : Way → Flags → Flags
+keptBy Plain all = all
+keptBy Observes all = all
+keptBy Takes all = noFlags
+keptBy Powers all = powerOnFlags
+
+abbrev pub handedBy : Way → Flags → Flags
+handedBy Plain all = noFlags
+handedBy Observes all = noFlags
+handedBy Takes all = all
+handedBy Powers all = noFlags
+
+-- "Power-on .. pulses."
+abbrev pub pulsesBy : Way → Bool → Bool
+pulsesBy Plain edge = edge
+pulsesBy Observes edge = edge
+pulsesBy Takes edge = edge
+pulsesBy Powers edge = true
+
+-- what was seen of the state before the event, and the state that it wrote, whose flags are still those held before
+unfoldable pub finishOf : Seen → State → Way → Outcome
+finishOf before written way =
+    let after = settleOf written (observing way) in
+    let edges = edgesOf before (seenOf after) in
+    let all = merged (written .flags) edges in
+    record {
+      number = 0;
+      place = 0;
+      model = On (withFlags after (keptBy way all));
+      pulse = pulsesBy way (pulseOf edges (after .settings .masks));
+      handed = handedBy way all;
+    }

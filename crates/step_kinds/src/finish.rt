@@ -1,20 +1,67 @@
 // What every accepted event ends with: it settles, and its edges join the flags and may pulse.
 ghost use mathlib.Core.Path.{_≡_};
-ghost use Rattle.step_kinds.specs.Finish.{withFlags, finishOf};
+ghost use Rattle.state_parts.specs.With.{withFlags};
+ghost use Rattle.step_kinds.specs.Answers.{steppedTold};
+ghost use Rattle.step_kinds.specs.Finish.{observing, keptBy, handedBy, pulsesBy, finishOf};
+use crate::answer::Stepped;
+use crate::change::Way;
 use settle_all::settle;
 use state_parts::flags;
 use state_parts::flags::Flags;
 use state_parts::state::State;
 use step_flags::between;
+use step_flags::between::Seen;
 
-// The state after an event, and whether it pulses.
-pub struct Finished {
-    pub state: State,
-    pub pulse: bool,
+// Whether an observation asks for the settling.
+fn observing(way: Way) -> bool
+    ensures { λ r. ⌜ r ≡ observing way ⌝ }
+{
+    match way {
+        Way::Plain => false,
+        Way::Observes => true,
+        Way::Takes => false,
+        Way::Powers => false,
+    }
+}
+
+// The flags that are held after the event, of those that it found and raised.
+fn kept_by(way: Way, all: Flags) -> Flags
+    ensures { λ r. ⌜ r ≡ keptBy way all ⌝ }
+{
+    match way {
+        Way::Plain => all,
+        Way::Observes => all,
+        Way::Takes => flags::none(),
+        Way::Powers => flags::powered(),
+    }
+}
+
+// The flags that it hands back.
+fn handed_by(way: Way, all: Flags) -> Flags
+    ensures { λ r. ⌜ r ≡ handedBy way all ⌝ }
+{
+    match way {
+        Way::Plain => flags::none(),
+        Way::Observes => flags::none(),
+        Way::Takes => all,
+        Way::Powers => flags::none(),
+    }
+}
+
+// Whether it pulses, by whether an edge does.
+fn pulses_by(way: Way, edge: bool) -> bool
+    ensures { λ r. ⌜ r ≡ pulsesBy way edge ⌝ }
+{
+    match way {
+        Way::Plain => edge,
+        Way::Observes => edge,
+        Way::Takes => edge,
+        Way::Powers => true,
+    }
 }
 
 // The state with these flags.
-pub fn flagged(s: State, f: Flags) -> State
+fn flagged(s: State, f: Flags) -> State
     ensures { λ r. ⌜ r ≡ withFlags s f ⌝ }
 {
     let mut r = s;
@@ -22,16 +69,21 @@ pub fn flagged(s: State, f: Flags) -> State
     r
 }
 
-// Settles what an event wrote, and takes the edges from the state before it.
-pub fn finish(before: State, written: State, observed: bool) -> Finished
-    ensures { λ r. ⌜ r ≡ finishOf before written observed ⌝ }
+// Settles what an event wrote; `before` is what was seen of the state before it.
+pub fn finish(before: Seen, written: State, way: Way) -> Stepped
+    ensures { λ r. ⌜ steppedTold r ≡ finishOf before written way ⌝ }
 {
-    let held = before.flags;
+    let held = written.flags;
+    let observed = observing(way);
     let after = settle::settle(written, observed);
     let masks = after.settings.masks;
-    let edges = between::between(before, after);
-    let joined = flags::merge(held, edges);
-    let state = flagged(after, joined);
-    let pulse = flags::pulse(edges, masks);
-    Finished { state, pulse }
+    let now = between::seen_in(after);
+    let edges = between::between(before, now);
+    let all = flags::merge(held, edges);
+    let kept = kept_by(way, all);
+    let handed = handed_by(way, all);
+    let state = flagged(after, kept);
+    let edge = flags::pulse(edges, masks);
+    let pulse = pulses_by(way, edge);
+    Stepped::Accepted(state, pulse, handed)
 }

@@ -1,12 +1,12 @@
 -- `first` meets its contract.
-use Rattle.step_event.specs.Steps.{firstOf}
 use borrow.Author.Needs.{needs}
+use Rattle.step_event.specs.Steps.{firstOf}
 use Rattle.step_event.proofs.step.first.Statement.{statement}
 use Rattle.step_event.proofs.step.first.Tie as tie
 
 returns : tie.Need-returns
 unfolding firstOf
-returns c = simp (c .power-on .ensures, c .before .before .e .given .1)
+returns c = simp (c .opened .ensures, c .before .before .t .given .1)
 
 returns-2 : tie.Need-returns-2
 unfolding firstOf
@@ -20,19 +20,5 @@ returns-4 : tie.Need-returns-4
 unfolding firstOf
 returns-4 c = simp (c .enum-told3 .given .1)
 
-returns-5 : tie.Need-returns-5
-unfolding firstOf
-returns-5 c = simp (c .enum-told4 .given .1)
-
-returns-6 : tie.Need-returns-6
-unfolding firstOf
-returns-6 c = simp (c .enum-told5 .given .1)
-
-returns-7 : tie.Need-returns-7
-unfolding firstOf
-returns-7 c = simp (c .enum-told6 .given .1)
-
 pub first-spec : {M : Type 1} → statement M
-first-spec =
-    tie.close
-    (tie.spec (λ c. search needs) (λ c κs. tt) (λ c. search needs) (λ c. search needs) (λ c. search needs) (λ c. search needs) (λ c. search needs) (λ c. search needs) returns returns-2 returns-3 returns-4 returns-5 returns-6 returns-7)
+first-spec = tie.close (tie.spec (λ c. search needs) (λ c κs. search needs) (λ c. search needs) (λ c. search needs) (λ c. search needs) returns returns-2 returns-3 returns-4)
