@@ -4,7 +4,7 @@ use native.Mathlib.Omega.{arith}
 use Rattle.base.proofs.Answers.{refusal-one}
 use Rattle.step_kinds.specs.declared.answer.Stepped.the-variants.{Accepted, Refused}
 use Rattle.step_event.proofs.Numbered.{some-number}
-use Rattle.step_kinds.specs.Plain.{Outcome}
+use Rattle.step_kinds.specs.Answers.{Outcome}
 use Rattle.laws_step.specs.Theorems.{StepOnce}
 
 record Same (a b : Outcome) : Type 0 where

@@ -10,15 +10,18 @@ use lib.Signed.{leZ, _≤ℤ_}
 use borrow.Author.Tests.{le-leb, eqb-true, eq-eqb, lt-leb, leb-false, not-true}
 use Rattle.base.proofs.Tests.{and-iff, leb-iff}
 use Rattle.state_fields.specs.Rows.{frequencyOk}
-use Rattle.state_parts.specs.declared.profile.Profile.{Profile}
-use Rattle.state_parts.specs.declared.sample.Sample.{Sample}
+use Rattle.log_event.specs.declared.spelled.SpelledProfile.{SpelledProfile}
+use Rattle.log_event.specs.declared.spelled.SpelledSample.{SpelledSample}
 use Rattle.state_settings.specs.Ranges.{rangeOf, knownSetting, mayHold}
-use Rattle.state_valid.specs.Holds.{profileOk, sampleOk}
+use Rattle.step_turns.specs.Ranges.{profileInRange, sampleInRange}
 use Rattle.laws_step.specs.Rows.{Among, ProfileIn, SampleIn, ValueIn}
 
 -- a test that fails, and the statement that it stands for
+pub outside : {P : Type 0} (t : Bool) → (t ≡ true) ↔ P → t ≡ false → ¬ P
+outside t h e holds = true≢false (sym (h .1 holds) ∙ e)
+
 pub refuted : {P : Type 0} (t : Bool) → (t ≡ true) ↔ P → not t ≡ true → ¬ P
-refuted t h e holds = true≢false (sym (h .1 holds) ∙ not-true t e)
+refuted t h e = outside t h (not-true t e)
 
 pub failed : {P : Type 0} (t : Bool) → (t ≡ true) ↔ P → ¬ P → t ≡ false
 failed true h n = absurd (n (h .0 refl))
@@ -35,8 +38,8 @@ leZ-iff a b = (λ e. record { le = subst T (sym e) tt }, λ k. yes-of (leZ a b) 
     yes-of true h = refl
     yes-of false h = absurd h
 
-pub profile-in : (p : Profile) → (profileOk p ≡ true) ↔ ProfileIn p
-unfolding profileOk
+pub profile-in : (p : SpelledProfile) → (profileInRange p ≡ true) ↔ ProfileIn p
+unfolding profileInRange
 profile-in p = (
   λ e.
       let k = simp (and-iff, leb-iff) at e in
@@ -55,8 +58,8 @@ profile-in p = (
       simp (and-iff, leb-iff) (((((((((k .cell, k .vchg), k .ichg), k .ohms), k .ceiling .0), k .ceiling .1), k .trickle), k .precharge), k .fast), k .watchdog),
 )
 
-pub sample-in : (x : Sample) → (sampleOk x ≡ true) ↔ SampleIn x
-unfolding sampleOk
+pub sample-in : (x : SpelledSample) → (sampleInRange x ≡ true) ↔ SampleIn x
+unfolding sampleInRange
 sample-in x = (
   λ e.
       let k = simp (and-iff, leb-iff, leZ-iff) at e in

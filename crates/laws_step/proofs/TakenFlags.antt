@@ -10,38 +10,45 @@ use Rattle.state_parts.specs.declared.flags.Flags.{Flags}
 use Rattle.state_parts.specs.declared.state.State.{State}
 use Rattle.state_parts.specs.declared.state.Model.{Model}
 use Rattle.state_parts.specs.declared.state.Model.the-variants.{On}
-use Rattle.step_flags.specs.Edges.{expiresOf, reachesOf, phaseChanges, bandChanges, seenOf, edgesOf}
+use Rattle.state_parts.specs.With.{withFlags}
+use Rattle.step_flags.specs.Edges.{seenOf, edgesOf}
+use Rattle.step_flags.specs.declared.between.Seen.{Seen}
 use Rattle.settle_all.specs.Settle.{forcedOf, settledOf, settleOf}
 use Rattle.settle_all.specs.Gather.{testsOf}
 use Rattle.settle_all.proofs.Once.{settles-once}
-use Rattle.step_kinds.specs.Finish.{withFlags, finishOf}
-use Rattle.step_kinds.specs.Plain.{Outcome, takeFlagsOf}
-use Rattle.step_event.specs.Steps.{movedOf, modelOk, stepOf}
-use Rattle.step_event.proofs.Keeps.{Comes, refuses, accepts, comes, accepted-passes}
+use Rattle.step_kinds.specs.Answers.{Outcome}
+use Rattle.step_kinds.specs.Finish.{observing, keptBy, finishOf}
+use Rattle.step_turns.specs.Turns.{turnOf}
+use Rattle.step_event.specs.Steps.{followedOf, movedOf, changeOf, modelOk, seenOn, turnedBy, stepOf}
+use Rattle.step_event.proofs.Keeps.{Comes, refuses, settles, comes, accepted-passes}
 use Rattle.step_event.proofs.Numbered.{some-number}
 use Rattle.laws_step.specs.Theorems.{StepSettles, TakesFlags, TakeFlagsAgain}
 
 -- settling reads no flags
 flagged-settles : (s : State) (f : Flags) (observed : Bool) → settleOf (withFlags s f) observed ≡ withFlags (settleOf s observed) f
-unfolding settleOf forcedOf settledOf testsOf withFlags
+unfolding settleOf forcedOf settledOf testsOf
 flagged-settles s f observed = refl
 
 pub step-settles : StepSettles
+unfolding finishOf
 step-settles m e s none on = by (comes m e) none on
   where
-    by : {o : Outcome} → Comes m o → o .number ≡ 0 → o .model ≡ On s → settleOf s false ≡ s
-    by (refuses r) none on = absurd (omega (arith, some-number r))
-    by (accepts written observed flags pulse handed k) none on =
+    again : (written : State) (observed : Bool) (flags : Flags) → On (withFlags (settleOf written observed) flags) ≡ On s → settleOf s false ≡ s
+    again written observed flags on =
         let same : withFlags (settleOf written observed) flags ≡ s = cc in
         subst (λ (t : State). settleOf t false ≡ t) same
         (flagged-settles (settleOf written observed) flags false ∙ ap (λ (t : State). withFlags t flags) (settles-once written observed))
+
+    by : {o : Outcome} → Comes m o → o .number ≡ 0 → o .model ≡ On s → settleOf s false ≡ s
+    by (refuses r) none on = absurd (omega (arith, some-number r))
+    by (settles written way k) none on = again written (observing way) _ on
 
 -- between a state and itself there is no edge
 no-change : (n : ℕ) → not (eqb n n) ≡ false
 no-change n = simp (eq-eqb n n refl)
 
-no-edges : (s : State) → edgesOf s s ≡ noFlags
-unfolding edgesOf expiresOf reachesOf phaseChanges bandChanges seenOf
+no-edges : (s : Seen) → edgesOf s s ≡ noFlags
+unfolding edgesOf
 no-edges s = simp (not-and-self, no-change)
 
 merged-none : (f : Flags) → merged f noFlags ≡ f
@@ -53,8 +60,8 @@ unfolding pulseOf
 no-pulse masks = refl
 
 pub takes-flags : TakesFlags
-unfolding stepOf movedOf takeFlagsOf finishOf withFlags
-takes-flags s ok settled = simp (ok, settled, no-edges s, merged-none (s .flags), no-pulse (s .settings .masks))
+unfolding stepOf turnedBy turnOf changeOf movedOf followedOf seenOn finishOf
+takes-flags s ok settled = simp (ok, settled, no-edges (seenOf s), merged-none (s .flags), no-pulse (s .settings .masks))
 
 pub take-flags-again : TakeFlagsAgain
 unfolding modelOk

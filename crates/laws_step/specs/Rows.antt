@@ -7,8 +7,6 @@ use mathlib.Core.Logic.{_≢_, _⊎_}
 use lib.IntN.{pos, negsuc}
 use lib.Signed.{_≤ℤ_}
 use Rattle.base.specs.Stamps.{elapsedOf}
-use Rattle.state_parts.specs.declared.profile.Profile.{Profile}
-use Rattle.state_parts.specs.declared.sample.Sample.{Sample}
 use Rattle.state_parts.specs.declared.state.State.{State}
 use Rattle.state_parts.specs.declared.state.Model.{Model}
 use Rattle.state_parts.specs.declared.state.Model.the-variants.{Off, On}
@@ -16,6 +14,8 @@ use Rattle.log_event.specs.Events.{kindOf}
 use Rattle.log_event.specs.Kinds.{kindByte}
 use Rattle.log_event.specs.declared.Event.{Event}
 use Rattle.log_event.specs.declared.Event.the-variants.{PowerOn, Set, Write, Observe}
+use Rattle.log_event.specs.declared.spelled.SpelledProfile.{SpelledProfile}
+use Rattle.log_event.specs.declared.spelled.SpelledSample.{SpelledSample}
 use Rattle.state_settings.specs.Ranges.{rangeOf}
 use Rattle.state_valid.specs.Holds.{stateOk}
 
@@ -23,7 +23,7 @@ abbrev pub Among : ℕ → ℕ → ℕ → Type 0
 Among n low high = (low ≤ n) × (n ≤ high)
 
 -- "1 power-on | cell, vchg, ichg codes 0-7; ILIM ohms 0-33,000; stamp; cell ceiling 4,350-4,714; trickle, precharge, fast limits and watchdog period in seconds, 0-172,800"
-pub record ProfileIn (p : Profile) : Type 0 where
+pub record ProfileIn (p : SpelledProfile) : Type 0 where
   pub cell : p .cell ≤ 7
   pub vchg : p .vchg ≤ 7
   pub ichg : p .ichg ≤ 7
@@ -35,7 +35,7 @@ pub record ProfileIn (p : Profile) : Type 0 where
   pub watchdog : p .watchdog ≤ 172800
 
 -- "5 observe | stamp; VIN, VBAT 0-45,000; IBAT -10,000 to 5,000; TS 0-100,000; bits 0-63"
-pub record SampleIn (x : Sample) : Type 0 where
+pub record SampleIn (x : SpelledSample) : Type 0 where
   pub input : x .input ≤ 45000
   pub pack : x .pack ≤ 45000
   pub ibat : (negsuc 9999 ≤ℤ x .ibat) × (x .ibat ≤ℤ pos 5000)
@@ -50,13 +50,13 @@ pub record ValueIn (number value : ℕ) : Type 0 where
 pub data Row : ℕ → Model → Event → Type 0 where
   -- 5: "a number outside kind 1, 3 or 5's ranges above, or a handed-in model's field outside what it may hold"
   bad-field : (s : State) (e : Event) → stateOk s ≢ true → Row 5 (On s) e
-  bad-profile : (m : Model) (p : Profile) → ¬ ProfileIn p → Row 5 m (PowerOn p)
+  bad-profile : (m : Model) (p : SpelledProfile) → ¬ ProfileIn p → Row 5 m (PowerOn p)
   bad-byte : (s : State) (address byte : ℕ) → Among address 0x15 0x1C → 255 < byte → Row 5 (On s) (Write address byte)
-  bad-sample : (s : State) (x : Sample) → ¬ SampleIn x → Row 5 (On s) (Observe x)
+  bad-sample : (s : State) (x : SpelledSample) → ¬ SampleIn x → Row 5 (On s) (Observe x)
   -- 6: "any kind but a power-on's, before a power-on"
   not-powered : (e : Event) → kindByte (kindOf e) ≢ 1 → Row 6 Off e
   -- 7: "stamp more than 3,600,000 ms ahead"
-  too-far : (s : State) (x : Sample) → stateOk s ≡ true → SampleIn x → 3600000 < elapsedOf (s .sample .stamp) (x .stamp) → Row 7 (On s) (Observe x)
+  too-far : (s : State) (x : SpelledSample) → stateOk s ≡ true → SampleIn x → 3600000 < elapsedOf (s .sample .stamp) (x .stamp) → Row 7 (On s) (Observe x)
   -- 8: "setting number not 1-14"
   no-setting : (s : State) (number value : ℕ) → stateOk s ≡ true → ¬ Among number 1 14 → Row 8 (On s) (Set number value)
   -- 9: "setting value outside its range or off its step"

@@ -1,22 +1,24 @@
--- What is proved of every step, of every model and every event, beside what `charger` proves of it.
+-- What is proved of every step, of every model and every event, beside what `step_event` proves of it.
 use Prim.Native.Nat.{ℕ, _+_, _*_, _^_, _≤_, _<_}
 use mathlib.Core.Path.{_≡_}
 use mathlib.Core.Bool.{true, false}
 use mathlib.Core.Logic.{_↔_, _⊎_}
 use Rattle.base.specs.Stamps.{elapsedOf}
 use Rattle.state_parts.specs.Edges.{noFlags}
+use Rattle.state_parts.specs.With.{withFlags}
 use Rattle.state_parts.specs.declared.sample.Sample.{Sample}
 use Rattle.state_parts.specs.declared.state.State.{State}
 use Rattle.state_parts.specs.declared.state.Model.{Model}
 use Rattle.state_parts.specs.declared.state.Model.the-variants.{On}
 use Rattle.log_event.specs.declared.Event.{Event}
-use Rattle.log_event.specs.declared.Event.the-variants.{TakeFlags, Observe}
-use Rattle.state_valid.specs.Holds.{stateOk}
+use Rattle.log_event.specs.declared.Event.the-variants.{TakeFlags}
+use Rattle.state_valid.specs.Holds.{sampleOk, stateOk}
+use Rattle.step_turns.specs.declared.later.Later.the-variants.{Observe}
+use Rattle.step_turns.specs.declared.turn.Turn.the-variants.{Follows}
 use Rattle.settle_all.specs.Settle.{settleOf}
 use Rattle.step_event.specs.Clock.{observedOf}
-use Rattle.step_kinds.specs.Finish.{withFlags}
-use Rattle.step_kinds.specs.Plain.{Outcome, steppedTold}
-use Rattle.step_event.specs.Steps.{stepOf}
+use Rattle.step_kinds.specs.Answers.{Outcome, steppedTold}
+use Rattle.step_event.specs.Steps.{turnedBy, stepOf}
 use Rattle.step_kinds.specs.declared.answer.Stepped.{Stepped}
 use Rattle.laws_step.specs.Rows.{Among, Row}
 
@@ -37,7 +39,7 @@ pub record StageFits (limit time : ℕ) : Type 0 where
   pub below : time < limit * 2000 + 7200000
   pub fits : time < 2 ^ 32
 
--- 01: "invented stage times .. break 3's sums": no sum of an accepted observation's wraps
+-- 01: "invented stage times .. break 3's sums": no sum of an accepted observation wraps, whatever kind says it
 pub record SumsFit (s : State) (x : Sample) : Type 0 where
   pub trickle : StageFits (s .profile .trickle) (observedOf s x .cycle .trickle)
   pub precharge : StageFits (s .profile .precharge) (observedOf s x .cycle .precharge)
@@ -45,7 +47,7 @@ pub record SumsFit (s : State) (x : Sample) : Type 0 where
   pub watchdog : s .watchdog .count + elapsedOf (s .sample .stamp) (x .stamp) < 2 ^ 32
 
 abbrev pub NoSumWraps : Type 0
-NoSumWraps = (s : State) (x : Sample) → stepOf (On s) (Observe x) .number ≡ 0 → SumsFit s x
+NoSumWraps = (s : State) (x : Sample) → sampleOk x ≡ true → turnedBy (On s) (Follows (Observe x)) .number ≡ 0 → SumsFit s x
 
 -- "equal inputs allow one outcome": what the contract tells of an answer settles it
 abbrev pub StepOnce : Type 0
