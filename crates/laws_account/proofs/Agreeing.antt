@@ -10,69 +10,69 @@ use Rattle.state_parts.specs.declared.state.Model.{Model}
 use Rattle.state_parts.specs.declared.state.Model.the-variants.{Off, On}
 use Rattle.state_valid.specs.Holds.{profileOk, stateOk}
 use Rattle.log_event.specs.declared.Event.{Event}
-use Rattle.log_event.specs.declared.Event.the-variants.{PowerOn, Set, Write, TakeFlags, Observe, Service, Reset}
-use Rattle.step_kinds.specs.Plain.{Outcome, powerOnOf}
-use Rattle.step_event.specs.Steps.{firstOf, movedOf, modelOk, stepOf}
-use Rattle.step_event.proofs.Keeps.{accepted-passes}
-use Rattle.laws_account.specs.History.{Later, set, write, takeFlags, observe, service, reset, asEvent, Turn, opens, follows, turnOf, Run, powered, _▸_}
+use Rattle.step_turns.specs.Turns.{turnOf}
+use Rattle.step_turns.specs.Promises.{LaterFits, TurnFits}
+use Rattle.step_turns.specs.declared.turn.Turn.{Turn}
+use Rattle.step_turns.specs.declared.turn.Turn.the-variants.{Opens, Follows, OpensOutside, FollowsOutside}
+use Rattle.step_turns.proofs.Fitting.{every-turn-fits}
+use Rattle.step_kinds.specs.Answers.{Outcome}
+use Rattle.step_event.specs.Steps.{firstOf, movedOf, changeOf, modelOk, turnedBy, stepOf}
+use Rattle.step_event.proofs.Keeps.{turned-passes}
+use Rattle.laws_account.specs.History.{Run, powered, _▸_}
+use Rattle.step_turns.specs.declared.later.Later.{Later}
 use Rattle.laws_account.specs.Refused.{refusalIn, Accepted, Past, none, some, refusalBy, refusalOf, nextBy, nextOf}
 use Rattle.laws_account.specs.States.{stateOf, modelOf, comesTo, outcomeOf}
 use Rattle.laws_account.specs.Runs.{runOf, AccountIsModel, Lawful, RefusalIsStep, OutcomeIsStep}
-use Rattle.laws_account.proofs.Stepping.{acceptedAt, step-is, power-is}
+use Rattle.laws_account.proofs.Stepping.{acceptedAt, turn-is, opened-is}
 
--- a power-on before any other
-power-first : (p : Profile) → stepOf Off (PowerOn p) ≡ comesTo (pick (profileOk p) 0 5) none (pick (profileOk p) (some (powered p)) none)
-unfolding stepOf firstOf powerOnOf
-power-first p = power-is none p (profileOk p) refl
+-- a power-on, whatever has come before
+power-first : (p : Profile) → profileOk p ≡ true → turnedBy Off (Opens p) ≡ acceptedAt (powered p)
+unfolding turnedBy changeOf firstOf
+power-first p ok = opened-is p ok Off
 
-power-start : (p : Profile) → profileOk p ≡ true → stepOf Off (PowerOn p) ≡ acceptedAt (powered p)
-power-start p ok = power-first p ∙ ap (λ b. comesTo (pick b 0 5) none (pick b (some (powered p)) none)) ok
+power-again : (r : Run) → stateOk (stateOf r) ≡ true → (p : Profile) → profileOk p ≡ true → turnedBy (On (stateOf r)) (Opens p) ≡ acceptedAt (powered p)
+unfolding turnedBy changeOf movedOf
+power-again r fits p ok = rw fits (opened-is p ok (On (stateOf r)))
 
-next-step : (r : Run) (e : Later) → stateOk (stateOf r) ≡ true → refusalIn r e ≡ 0 → stepOf (On (stateOf r)) (asEvent e) ≡ acceptedAt (r ▸ e)
-next-step r e ok h = step-is r e ok ∙ ap (λ n. comesTo n (some r) (some (pick (eqb n 0) (r ▸ e) r))) h
+next-step : (r : Run) (e : Later) → stateOk (stateOf r) ≡ true → refusalIn r e ≡ 0 → turnedBy (On (stateOf r)) (Follows e) ≡ acceptedAt (r ▸ e)
+next-step r e ok h = turn-is r e ok ∙ ap (λ n. comesTo n (some r) (some (pick (eqb n 0) (r ▸ e) r))) h
 
 -- an accepted event makes a state that holds what it may
-passes : (m : Model) (e : Event) (r : Run) → stepOf m e ≡ acceptedAt r → stateOk (stateOf r) ≡ true
+passes : (m : Model) (t : Turn) → TurnFits t → (r : Run) → turnedBy m t ≡ acceptedAt r → stateOk (stateOf r) ≡ true
 unfolding modelOk
-passes m e r h = sym (ap (λ (o : Outcome). modelOk (o .model)) h) ∙ accepted-passes m e (ap (λ (o : Outcome). o .number) h)
+passes m t fits r h = sym (ap (λ (o : Outcome). modelOk (o .model)) h) ∙ turned-passes m t fits (ap (λ (o : Outcome). o .number) h)
 
 pub fine : (r : Run) → Accepted r → stateOk (stateOf r) ≡ true
-fine (powered p) a = passes Off (PowerOn p) (powered p) (power-start p a)
-fine (r ▸ e) a = passes (On (stateOf r)) (asEvent e) (r ▸ e) (next-step r e (fine r (a .0)) (a .1))
+fine (powered p) a = passes Off (Opens p) a (powered p) (power-first p a)
+fine (r ▸ e) a = passes (On (stateOf r)) (Follows e) (a .1 .0) (r ▸ e) (next-step r e (fine r (a .0)) (a .1 .1))
 
 start-run : (p : Profile) → profileOk p ≡ true → runOf (powered p) ≡ On (stateOf (powered p))
 unfolding runOf
-start-run p ok = ap (λ (o : Outcome). o .model) (power-start p ok)
+start-run p ok = ap (λ (o : Outcome). o .model) (power-first p ok)
 
 next-run : (r : Run) (e : Later) → stateOk (stateOf r) ≡ true → refusalIn r e ≡ 0 → runOf r ≡ On (stateOf r) → runOf (r ▸ e) ≡ On (stateOf (r ▸ e))
 unfolding runOf
-next-run r e ok h g = ap (λ m. stepOf m (asEvent e) .model) g ∙ ap (λ (o : Outcome). o .model) (next-step r e ok h)
+next-run r e ok h g = ap (λ m. turnedBy m (Follows e) .model) g ∙ ap (λ (o : Outcome). o .model) (next-step r e ok h)
 
 pub account-is-model : AccountIsModel
 account-is-model (powered p) a = start-run p a
-account-is-model (r ▸ e) a = next-run r e (fine r (a .0)) (a .1) (account-is-model r (a .0))
+account-is-model (r ▸ e) a = next-run r e (fine r (a .0)) (a .1 .1) (account-is-model r (a .0))
 
 -- what comes next, by whether it opens a run
-by-turn : (h : Past) → Lawful h → (e : Event) → stepOf (modelOf h) e ≡ comesTo (refusalBy h (turnOf e)) h (nextBy h (turnOf e))
-unfolding stepOf firstOf movedOf powerOnOf
-by-turn none l (PowerOn p) = power-first p
-by-turn none l (Set n v) = refl
-by-turn none l (Write a b) = refl
-by-turn none l TakeFlags = refl
-by-turn none l (Observe x) = refl
-by-turn none l Service = refl
-by-turn none l Reset = refl
-by-turn (some r) l (PowerOn p) = rw (fine r l) (power-is (some r) p (profileOk p) refl)
-by-turn (some r) l (Set n v) = step-is r (set n v) (fine r l)
-by-turn (some r) l (Write a b) = step-is r (write a b) (fine r l)
-by-turn (some r) l TakeFlags = step-is r takeFlags (fine r l)
-by-turn (some r) l (Observe x) = step-is r (observe x) (fine r l)
-by-turn (some r) l Service = step-is r service (fine r l)
-by-turn (some r) l Reset = step-is r reset (fine r l)
+by-turn : (h : Past) → Lawful h → (t : Turn) → TurnFits t → turnedBy (modelOf h) t ≡ comesTo (refusalBy h t) h (nextBy h t)
+unfolding turnedBy changeOf firstOf movedOf
+by-turn none l (Opens p) fits = power-first p fits
+by-turn none l (Follows e) fits = refl
+by-turn none l OpensOutside fits = refl
+by-turn none l FollowsOutside fits = refl
+by-turn (some r) l (Opens p) fits = power-again r (fine r l) p fits
+by-turn (some r) l (Follows e) fits = turn-is r e (fine r l)
+by-turn (some r) l OpensOutside fits = rw (fine r l)
+by-turn (some r) l FollowsOutside fits = rw (fine r l)
 
 pub outcome-is-step : OutcomeIsStep
-unfolding outcomeOf refusalOf nextOf
-outcome-is-step h l e = by-turn h l e
+unfolding stepOf outcomeOf refusalOf nextOf
+outcome-is-step h l e = by-turn h l (turnOf e) (every-turn-fits e)
 
 told : (n : ℕ) (before after : Past) (b : Bool) → eqb n 0 ≡ b → comesTo n before after .number ≡ n
 told n before after true h = ap (λ k. comesTo k before after .number) (eqb-true n 0 h) ∙ sym (eqb-true n 0 h)
@@ -83,35 +83,31 @@ unfolding outcomeOf
 refusal-is-step h l e = ap (λ (o : Outcome). o .number) (outcome-is-step h l e) ∙ told (refusalOf h e) h (nextOf h e) (eqb (refusalOf h e) 0) refl
 
 -- what has come before stays lawful
-keeps-turn : (h : Past) → Lawful h → (t : Turn) → Lawful (nextBy h t)
-keeps-turn h l (opens p) = go (profileOk p) refl
-  where
-    go : (b : Bool) → profileOk p ≡ b → Lawful (pick b (some (powered p)) h)
-    go true ok = ok
-    go false ok = l
-keeps-turn none l (follows e) = tt
-keeps-turn (some r) l (follows e) = go (eqb (refusalIn r e) 0) refl
+keeps-turn : (h : Past) → Lawful h → (t : Turn) → TurnFits t → Lawful (nextBy h t)
+keeps-turn h l (Opens p) fits = fits
+keeps-turn none l (Follows e) fits = tt
+keeps-turn (some r) l (Follows e) fits = go (eqb (refusalIn r e) 0) refl
   where
     go : (b : Bool) → eqb (refusalIn r e) 0 ≡ b → Accepted (pick b (r ▸ e) r)
-    go true h = (l, eqb-true (refusalIn r e) 0 h)
+    go true h = (l, (fits, eqb-true (refusalIn r e) 0 h))
     go false h = l
+keeps-turn h l OpensOutside fits = l
+keeps-turn h l FollowsOutside fits = l
 
 pub keeps-lawful : (h : Past) → Lawful h → (e : Event) → Lawful (nextOf h e)
 unfolding nextOf
-keeps-lawful h l e = keeps-turn h l (turnOf e)
+keeps-lawful h l e = keeps-turn h l (turnOf e) (every-turn-fits e)
 
 model-turn : (n : ℕ) (before after : Past) (b : Bool) → eqb n 0 ≡ b → (b ≡ false → after ≡ before) → comesTo n before after .model ≡ modelOf after
 model-turn n before after true h s = rw h
 model-turn n before after false h s = rw h (ap modelOf (sym (s refl)))
 
 refused-stays : (h : Past) (t : Turn) → eqb (refusalBy h t) 0 ≡ false → nextBy h t ≡ h
-refused-stays h (opens p) x = go (profileOk p) x
-  where
-    go : (b : Bool) → eqb (pick b 0 5) 0 ≡ false → pick b (some (powered p)) h ≡ h
-    go true y = absurd (true≢false y)
-    go false y = refl
-refused-stays none (follows e) x = refl
-refused-stays (some r) (follows e) x = rw x
+refused-stays h (Opens p) x = absurd (true≢false x)
+refused-stays none (Follows e) x = refl
+refused-stays (some r) (Follows e) x = rw x
+refused-stays h OpensOutside x = refl
+refused-stays h FollowsOutside x = refl
 
 pub next-model : (h : Past) → Lawful h → (e : Event) → stepOf (modelOf h) e .model ≡ modelOf (nextOf h e)
 unfolding outcomeOf refusalOf nextOf

@@ -14,7 +14,8 @@ use Rattle.state_registers.specs.Reads.{byteAt}
 use Rattle.state_registers.specs.Writes.{countTaken, placed}
 use Rattle.state_registers.specs.Resets as registers
 use Rattle.step_event.specs.Clock.{clearedIf}
-use Rattle.laws_account.specs.History.{Run, _▸_, write, observe, reset}
+use Rattle.laws_account.specs.History.{Run, _▸_}
+use Rattle.step_turns.specs.declared.later.Later.the-variants.{Write, Observe, Reset}
 use Rattle.laws_account.specs.Held.{expired, overridden, cellsOf, restored, byteOf}
 use Rattle.laws_account.specs.States.{registersAt}
 use Rattle.laws_account.proofs.Choices.{chosen-at}
@@ -89,14 +90,14 @@ module _ (s : State) (byte : ℕ) where
   }
 
 pub written-bytes : (r : Run) (s : State) → s .registers ≡ registersAt r → (address byte : ℕ)
-    → placed (countTaken (s .registers) address byte) (s .registers) address (left s byte address) ≡ registersAt (r ▸ write address byte)
+    → placed (countTaken (s .registers) address byte) (s .registers) address (left s byte address) ≡ registersAt (r ▸ Write address byte)
 unfolding registersAt byteOf cellsOf overridden
 written-bytes r s h address byte = placed-is s byte address ∙ rw h refl
 
-pub cleared-bytes : (r : Run) (x : Sample) → clearedIf (not (expired r) && expired (r ▸ observe x)) (registersAt r) ≡ registersAt (r ▸ observe x)
+pub cleared-bytes : (r : Run) (x : Sample) → clearedIf (not (expired r) && expired (r ▸ Observe x)) (registersAt r) ≡ registersAt (r ▸ Observe x)
 unfolding clearedIf registersAt byteOf cellsOf overridden
 cleared-bytes r x = refl
 
-pub reset-bytes : (r : Run) (p : Profile) → registers.restored p (registersAt r) ≡ registersAt (r ▸ reset)
+pub reset-bytes : (r : Run) (p : Profile) → registers.restored p (registersAt r) ≡ registersAt (r ▸ Reset)
 unfolding registers.restored registersAt byteOf cellsOf overridden resetByte fieldsAt fields
 reset-bytes r p = refl

@@ -11,7 +11,9 @@ use Rattle.state_parts.specs.declared.sample.Sample.{Sample}
 use Rattle.step_flags.specs.Expiry.{expiredOf}
 use Rattle.step_event.specs.Clock.{countedOf}
 use Rattle.state_start.specs.Values.{startWatchdog}
-use Rattle.laws_account.specs.History.{Later, observe, Run, _▸_, sumAfter}
+use Rattle.laws_account.specs.History.{Run, _▸_, sumAfter}
+use Rattle.step_turns.specs.declared.later.Later.{Later}
+use Rattle.step_turns.specs.declared.later.Later.the-variants.{Observe}
 use Rattle.laws_account.specs.Held.{profileOf, sampleOf, elapsed, wasServed, unserved, expired}
 use Rattle.laws_account.specs.States.{watchdogAt}
 
@@ -30,7 +32,7 @@ unfolding expiredOf watchdogAt expired
 expired-is r = ap (λ b. not (eqb (profileOf r .watchdog) 0) && b) (at-top (unserved r) (profileOf r .watchdog * 1000))
 
 -- what each kind of event makes of it
-pub counted-is : (r : Run) (x : Sample) → countedOf (profileOf r) (watchdogAt r) (elapsedOf (sampleOf r .stamp) (x .stamp)) ≡ watchdogAt (r ▸ observe x)
+pub counted-is : (r : Run) (x : Sample) → countedOf (profileOf r) (watchdogAt r) (elapsedOf (sampleOf r .stamp) (x .stamp)) ≡ watchdogAt (r ▸ Observe x)
 unfolding countedOf watchdogAt unserved sumAfter wasServed elapsed profileOf
 counted-is r x = λ i. record { count = capped (unserved r) (elapsedOf (sampleOf r .stamp) (x .stamp)) (profileOf r .watchdog * 1000) i }
 

@@ -20,8 +20,11 @@ use Rattle.state_registers.specs.Writes.{writtenTo}
 use Rattle.state_registers.specs.Resets.{resetOf}
 use Rattle.step_event.specs.Clock as clock
 use Rattle.step_event.specs.Clock.{timesOf, countedOf, clearedIf, observedOf}
-use Rattle.step_kinds.specs.Plain.{withSettings, serviced}
-use Rattle.laws_account.specs.History.{Later, set, write, takeFlags, observe, service, reset, Run, _▸_}
+use Rattle.state_parts.specs.With.{withSettings}
+use Rattle.step_kinds.specs.Plain.{servicedOf}
+use Rattle.laws_account.specs.History.{Run, _▸_}
+use Rattle.step_turns.specs.declared.later.Later.{Later}
+use Rattle.step_turns.specs.declared.later.Later.the-variants.{Set, Write, TakeFlags, Observe, Service, Reset}
 use Rattle.laws_account.specs.Held.{profileOf, sampleOf, elapsed, wasReset, wasServed, expired, overridden, takes, cellsOf, byteOf}
 use Rattle.laws_account.specs.Valued.{givenBy, settingOf}
 use Rattle.laws_account.specs.Judged.{bandAt}
@@ -34,12 +37,12 @@ use Rattle.laws_account.proofs.Bytes.{written-bytes, cleared-bytes, res
 
 -- what each kind of event writes
 abbrev pub writtenBy : State → Later → State
-writtenBy s (set number value) = withSettings s (storeOf (s .settings) number value)
-writtenBy s (write address byte) = writtenTo s address byte
-writtenBy s takeFlags = s
-writtenBy s (observe x) = observedOf s x
-writtenBy s service = serviced s
-writtenBy s reset = resetOf s
+writtenBy s (Set number value) = withSettings s (storeOf (s .settings) number value)
+writtenBy s (Write address byte) = writtenTo s address byte
+writtenBy s TakeFlags = s
+writtenBy s (Observe x) = observedOf s x
+writtenBy s Service = servicedOf s
+writtenBy s Reset = resetOf s
 
 -- the state of a run with these parts
 abbrev pub changed : Run → Settings → Registers → Cycle → Watchdog → Sample → State
@@ -106,33 +109,33 @@ cycle-kept r e n z = λ i. record {
 
 -- an observation's time goes to the stage held before it
 cycle-timed : (r : Run) (x : Sample)
-    → timesOf (profileOf r) (phaseAt r) (clock.unitsOf (sampleOf r) (elapsedOf (sampleOf r .stamp) (x .stamp))) (cycleAt phaseAt r) ≡ cycleFound (r ▸ observe x)
+    → timesOf (profileOf r) (phaseAt r) (clock.unitsOf (sampleOf r) (elapsedOf (sampleOf r .stamp) (x .stamp))) (cycleAt phaseAt r) ≡ cycleFound (r ▸ Observe x)
 unfolding timesOf clock.unitsOf unitsOf cycleAt timeFound gave elapsed wasReset wasDone
 cycle-timed r x = λ i. record {
-  trickle = added (counted trickle r) (timeIn phaseAt trickle r) (unitsOf (sampleOf r) (elapsed (r ▸ observe x))) i;
-  precharge = added (counted precharge r) (timeIn phaseAt precharge r) (unitsOf (sampleOf r) (elapsed (r ▸ observe x))) i;
-  fast = added (counted fast r) (timeIn phaseAt fast r) (unitsOf (sampleOf r) (elapsed (r ▸ observe x))) i;
+  trickle = added (counted trickle r) (timeIn phaseAt trickle r) (unitsOf (sampleOf r) (elapsed (r ▸ Observe x))) i;
+  precharge = added (counted precharge r) (timeIn phaseAt precharge r) (unitsOf (sampleOf r) (elapsed (r ▸ Observe x))) i;
+  fast = added (counted fast r) (timeIn phaseAt fast r) (unitsOf (sampleOf r) (elapsed (r ▸ Observe x))) i;
   done = isDone phaseAt r;
 }
 
 expires-is : (r : Run) (x : Sample)
     → (not (expiredOf (profileOf r) (watchdogAt r)) && expiredOf (profileOf r) (countedOf (profileOf r) (watchdogAt r) (elapsedOf (sampleOf r .stamp) (x .stamp))))
-    ≡ (not (expired r) && expired (r ▸ observe x))
+    ≡ (not (expired r) && expired (r ▸ Observe x))
 unfolding profileOf
-expires-is r x = λ i. not (expired-is r i) && (ap (expiredOf (profileOf r)) (counted-is r x) ∙ expired-is (r ▸ observe x)) i
+expires-is r x = λ i. not (expired-is r i) && (ap (expiredOf (profileOf r)) (counted-is r x) ∙ expired-is (r ▸ Observe x)) i
 
 pub written-is : (r : Run) (e : Later) → writtenBy (stateOf r) e ≡ found r e
 unfolding found stateBy settingsAt registersAt byteOf cellsOf overridden sampleOf writtenTo observedOf resetOf wasReset wasServed elapsed timeFound wasDone
-written-is r (set n v) =
-    λ i. changed r (store-is (λ k. settingOf k r) n v i) (registersAt r) (cycle-kept r (set n v) refl refl i) (waits r (set n v) refl refl i) (sampleOf r)
-written-is r (write a b) =
+written-is r (Set n v) =
+    λ i. changed r (store-is (λ k. settingOf k r) n v i) (registersAt r) (cycle-kept r (Set n v) refl refl i) (waits r (Set n v) refl refl i) (sampleOf r)
+written-is r (Write a b) =
     λ i. changed r (count-is (λ k. settingOf k r) (profileOf r) (b % 8) (takes r (cellsOf r) a b) i) (written-bytes r (stateOf r) refl a b i)
-    (cycle-kept r (write a b) refl refl i) (waits r (write a b) refl refl i) (sampleOf r)
-written-is r takeFlags =
-    λ i. changed r (settingsAt r) (registersAt r) (cycle-kept r takeFlags refl refl i) (waits r takeFlags refl refl i) (sampleOf r)
-written-is r (observe x) =
+    (cycle-kept r (Write a b) refl refl i) (waits r (Write a b) refl refl i) (sampleOf r)
+written-is r TakeFlags =
+    λ i. changed r (settingsAt r) (registersAt r) (cycle-kept r TakeFlags refl refl i) (waits r TakeFlags refl refl i) (sampleOf r)
+written-is r (Observe x) =
     λ i. changed r (settingsAt r) ((ap (λ b. clearedIf b (registersAt r)) (expires-is r x) ∙ cleared-bytes r x) i) (cycle-timed r x i) (counted-is r x i) x
-written-is r service =
-    λ i. changed r (settingsAt r) (registersAt r) (cycle-kept r service refl refl i) (served-is r service refl i) (sampleOf r)
-written-is r reset =
-    λ i. changed r (start-is (profileOf r) (cellsOf r) i) (reset-bytes r (profileOf r) i) (cycleFound (r ▸ reset)) (served-is r reset refl i) (sampleOf r)
+written-is r Service =
+    λ i. changed r (settingsAt r) (registersAt r) (cycle-kept r Service refl refl i) (served-is r Service refl i) (sampleOf r)
+written-is r Reset =
+    λ i. changed r (start-is (profileOf r) (cellsOf r) i) (reset-bytes r (profileOf r) i) (cycleFound (r ▸ Reset)) (served-is r Reset refl i) (sampleOf r)

@@ -24,7 +24,8 @@ use Rattle.settle_phases.specs.Order.{isTaper}
 use Rattle.settle_phases.specs.declared.tests.Tests.{Tests}
 use Rattle.settle_all.specs.Gather.{testsOf}
 use Rattle.settle_all.specs.Settle.{storedOf, forcedOf}
-use Rattle.laws_account.specs.History.{Later, Run, powered, _▸_, since}
+use Rattle.laws_account.specs.History.{Run, powered, _▸_, since}
+use Rattle.step_turns.specs.declared.later.Later.{Later}
 use Rattle.laws_account.specs.Held.{profileOf, sampleOf, wasObserved, wasReset, cellsOf}
 use Rattle.laws_account.specs.Valued.{pinFault, givenBy, settingOf}
 use Rattle.laws_account.specs.Judged.{vbat, packClamp, baseAt, inputOk, inputOver, inputGood, short, low, lowEnds, packOver, bandAt, suspendedIn, suspended, cutIn, chargeVoltage, permitted, tapering, rechargeDue, ending}

@@ -12,7 +12,8 @@ use Rattle.state_parts.specs.Numbers.{phaseNumber}
 use Rattle.state_parts.specs.declared.profile.Profile.{Profile}
 use Rattle.state_parts.specs.declared.phase.Phase.{Phase}
 use Rattle.state_parts.specs.declared.phase.Phase.the-variants.{Idle}
-use Rattle.laws_account.specs.History.{Later, Run, powered, _▸_, since, sumAfter, count}
+use Rattle.laws_account.specs.History.{Run, powered, _▸_, since, sumAfter, count}
+use Rattle.step_turns.specs.declared.later.Later.{Later}
 use Rattle.laws_account.specs.Held.{wasReset}
 use Rattle.laws_account.specs.Cycles.{Stage, trickle, precharge, fast, gave, isDone, wasDone, restarts, starts, timeIn, timeFound, limitFound, fault, chargeEnds, phaseBy, Keeps, phasesOf, phaseAt}
 use Rattle.laws_account.specs.Runs.{PhaseKeepsRule, PhaseOnlyOne}

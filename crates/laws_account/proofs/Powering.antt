@@ -21,8 +21,7 @@ use Rattle.settle_phases.specs.Cycles.{cycleOf}
 use Rattle.settle_phases.specs.Order.{judgedOf, clearsOf, endsOf, phaseOf}
 use Rattle.settle_all.specs.Gather.{testsOf}
 use Rattle.settle_all.specs.Settle.{storedOf, forcedOf, settledOf, settleOf}
-use Rattle.step_kinds.specs.Finish.{withFlags}
-use Rattle.step_kinds.specs.Plain.{poweredOf}
+use Rattle.state_parts.specs.With.{withFlags}
 use Rattle.laws_account.specs.History.{Run, powered, since, sumAfter, count}
 use Rattle.laws_account.specs.Held.{profileOf, sampleOf, unserved, overridden, cellsOf, byteOf}
 use Rattle.laws_account.specs.Valued.{pinFault, startValue, settingOf}
@@ -34,6 +33,10 @@ use Rattle.laws_account.proofs.Values.{start-is, force-is}
 use Rattle.laws_account.proofs.Judging.{fault-is}
 use Rattle.laws_account.proofs.Settling.{flaggedWith}
 use Rattle.laws_account.proofs.Starting.{below-short, below-any}
+
+-- what a power-on leaves
+abbrev pub poweredOf : Profile → State
+poweredOf p = withFlags (settleOf (startOf p) false) powerOnFlags
 
 -- VBAT_LOWV starts at 3
 low-pos : (p : Profile) → 0 < lowEnds (powered p) - 50
@@ -156,5 +159,5 @@ module _ (p : Profile) where
         ∙ settled-start
 
     pub powered-is : poweredOf p ≡ stateOf (powered p)
-    unfolding poweredOf withFlags stateBy flagsAt flagged since wasTaken
+    unfolding stateBy flagsAt flagged since wasTaken
     powered-is = ap (λ s. withFlags s powerOnFlags) settle-start

@@ -1,15 +1,21 @@
 -- The flags of a run: the edges of an event are the account's, and so are the flags that are held after it.
 use mathlib.Core.Path.{_≡_, refl, ap, _∙_}
-use mathlib.Core.Bool.{false, not, _&&_, _||_}
+use mathlib.Core.Bool.{Bool, false, _||_}
 use Rattle.state_parts.specs.Edges.{merged, pulseOf, noFlags}
 use Rattle.state_parts.specs.declared.flags.Flags.{Flags}
 use Rattle.state_parts.specs.declared.state.State.{State}
 use Rattle.settle_permission.specs.Limits.{reachedOf}
-use Rattle.step_flags.specs.Edges.{expiresOf, reachesOf, phaseChanges, bandChanges, seenOf, edgesOf}
+use Rattle.state_parts.specs.With.{withFlags}
+use Rattle.state_parts.specs.declared.state.Model.the-variants.{On}
+use Rattle.step_flags.specs.Edges.{begins, seenOf, edgesOf}
 use Rattle.settle_all.specs.Settle.{settleOf}
-use Rattle.step_kinds.specs.Finish.{withFlags, finishOf}
-use Rattle.step_kinds.specs.declared.finish.Finished.{Finished}
-use Rattle.laws_account.specs.History.{Later, takeFlags, Run, _▸_, since}
+use Rattle.step_kinds.specs.Answers.{Outcome}
+use Rattle.step_kinds.specs.Finish.{observing, keptBy, handedBy, pulsesBy, finishOf}
+use Rattle.step_kinds.specs.declared.change.Way.{Way}
+use Rattle.step_kinds.specs.declared.change.Way.the-variants.{Plain, Observes, Takes}
+use Rattle.laws_account.specs.History.{Run, _▸_, since}
+use Rattle.step_turns.specs.declared.later.Later.{Later}
+use Rattle.step_turns.specs.declared.later.Later.the-variants.{TakeFlags}
 use Rattle.laws_account.specs.Held.{wasObserved, expired}
 use Rattle.laws_account.specs.Valued.{settingOf}
 use Rattle.laws_account.specs.Judged.{inputGood}
@@ -19,19 +25,19 @@ use Rattle.laws_account.specs.Flagged.{Flag, flagsBy, wasTaken, edge, fl
 use Rattle.laws_account.specs.States.{settingsAt, latchesAt, cycleAt, flagsAt, stateBy, stateOf}
 use Rattle.laws_account.proofs.Choices.{or-swap}
 use Rattle.laws_account.proofs.Dogs.{expired-is}
-use Rattle.laws_account.proofs.Found.{writtenBy, written-is}
+use Rattle.laws_account.proofs.Found.{writtenBy, found, written-is}
 use Rattle.laws_account.proofs.Settling.{flaggedWith, settle-is}
 
 module _ (r : Run) (e : Later) where
   abbrev pub edges : Flags
   edges = flagsBy (λ k. edge phaseAt k (r ▸ e))
 
-  expires-is : expiresOf (stateOf r) (flaggedWith (r ▸ e) (flagsAt phaseAt r)) ≡ edge phaseAt flag.expiry (r ▸ e)
-  unfolding expiresOf edge stateBy
-  expires-is = λ i. not (expired-is r i) && expired-is (r ▸ e) i
+  expires-is : begins (seenOf (stateOf r) .expired) (seenOf (flaggedWith (r ▸ e) (flagsAt phaseAt r)) .expired) ≡ edge phaseAt flag.expiry (r ▸ e)
+  unfolding seenOf edge stateBy
+  expires-is = λ i. begins (expired-is r i) (expired-is (r ▸ e) i)
 
-  edges-are : edgesOf (stateOf r) (flaggedWith (r ▸ e) (flagsAt phaseAt r)) ≡ edges
-  unfolding edgesOf edge stateBy seenOf phaseChanges bandChanges reachesOf reachedOf limitReached latchesAt cycleAt inputGood
+  edges-are : edgesOf (seenOf (stateOf r)) (seenOf (flaggedWith (r ▸ e) (flagsAt phaseAt r))) ≡ edges
+  unfolding edgesOf edge stateBy seenOf reachedOf limitReached latchesAt cycleAt inputGood
   edges-are = λ i. record {
     good = edge phaseAt flag.good (r ▸ e);
     lost = edge phaseAt flag.lost (r ▸ e);
@@ -47,36 +53,50 @@ module _ (r : Run) (e : Later) where
     limit = edge phaseAt flag.limit (r ▸ e);
   }
 
-  settled-is : settleOf (writtenBy (stateOf r) e) (wasObserved (r ▸ e)) ≡ flaggedWith (r ▸ e) (flagsAt phaseAt r)
-  settled-is = ap (λ w. settleOf w (wasObserved (r ▸ e))) (written-is r e) ∙ settle-is r e
+  -- the flags that the event found and raised
+  abbrev pub all : Flags
+  all = merged (flagsAt phaseAt r) edges
 
-  -- what every accepted event ends with
-  abbrev ending : State → Finished
-  ending s = record {
-    state = withFlags s (merged (flagsAt phaseAt r) (edgesOf (stateOf r) s));
-    pulse = pulseOf (edgesOf (stateOf r) s) (s .settings .masks);
-  }
+  module _ (w : Way) where
+    -- what every accepted event ends with, by the state that settling comes to
+    abbrev ending : State → Outcome
+    ending s =
+        let raised = edgesOf (seenOf (stateOf r)) (seenOf s) in
+        let flags = merged (flagsAt phaseAt r) raised in
+        record { number = 0; place = 0; model = On (withFlags s (keptBy w flags)); pulse = pulsesBy w (pulseOf raised (s .settings .masks)); handed = handedBy w flags }
 
-  abbrev pub finishedAs : Finished
-  finishedAs = record { state = flaggedWith (r ▸ e) (merged (flagsAt phaseAt r) edges); pulse = pulsed phaseAt (r ▸ e) }
+    abbrev pub ended : Outcome
+    ended = record { number = 0; place = 0; model = On (flaggedWith (r ▸ e) (keptBy w all)); pulse = pulsesBy w (pulsed phaseAt (r ▸ e)); handed = handedBy w all }
 
-  pub finish-is : finishOf (stateOf r) (writtenBy (stateOf r) e) (wasObserved (r ▸ e)) ≡ finishedAs
-  unfolding finishOf withFlags stateBy pulsed settingsAt
-  finish-is =
-      ap ending settled-is
-      ∙ (λ i. record { state = flaggedWith (r ▸ e) (merged (flagsAt phaseAt r) (edges-are i)); pulse = pulseOf (edges-are i) (settingOf 14 (r ▸ e)) })
+    settled-is : observing w ≡ wasObserved (r ▸ e) → settleOf (found r e) (observing w) ≡ flaggedWith (r ▸ e) (flagsAt phaseAt r)
+    settled-is h = ap (settleOf (found r e)) h ∙ settle-is r e
+
+    found-is : observing w ≡ wasObserved (r ▸ e) → finishOf (seenOf (stateOf r)) (found r e) w ≡ ended
+    unfolding finishOf found pulsed settingsAt stateBy
+    found-is h =
+        ap ending (settled-is h)
+        ∙ (λ i. record {
+          number = 0;
+          place = 0;
+          model = On (flaggedWith (r ▸ e) (keptBy w (merged (flagsAt phaseAt r) (edges-are i))));
+          pulse = pulsesBy w (pulseOf (edges-are i) (settingOf 14 (r ▸ e)));
+          handed = handedBy w (merged (flagsAt phaseAt r) (edges-are i));
+        })
+
+    pub finish-is : observing w ≡ wasObserved (r ▸ e) → finishOf (seenOf (stateOf r)) (writtenBy (stateOf r) e) w ≡ ended
+    finish-is h = ap (λ s. finishOf (seenOf (stateOf r)) s w) (written-is r e) ∙ found-is h
 
   held-after : wasTaken (r ▸ e) ≡ false → (k : Flag) → (flagged phaseAt k r || edge phaseAt k (r ▸ e)) ≡ flagged phaseAt k (r ▸ e)
   unfolding flagged since
   held-after h k = rw h (or-swap (flagged phaseAt k r) (edge phaseAt k (r ▸ e)))
 
-  flags-after : wasTaken (r ▸ e) ≡ false → merged (flagsAt phaseAt r) edges ≡ flagsAt phaseAt (r ▸ e)
+  flags-after : wasTaken (r ▸ e) ≡ false → all ≡ flagsAt phaseAt (r ▸ e)
   unfolding merged flagsAt
   flags-after h = λ i. flagsBy (λ k. held-after h k i)
 
-  pub kept-is : wasTaken (r ▸ e) ≡ false → finishOf (stateOf r) (writtenBy (stateOf r) e) (wasObserved (r ▸ e)) .state ≡ stateOf (r ▸ e)
+  pub kept-is : wasTaken (r ▸ e) ≡ false → flaggedWith (r ▸ e) all ≡ stateOf (r ▸ e)
   unfolding stateBy
-  kept-is h = ap (λ (f : Finished). f .state) finish-is ∙ ap (flaggedWith (r ▸ e)) (flags-after h)
+  kept-is h = ap (flaggedWith (r ▸ e)) (flags-after h)
 
   none-handed : wasTaken (r ▸ e) ≡ false → (k : Flag) → false ≡ handedBack phaseAt k (r ▸ e)
   unfolding handedBack
@@ -86,10 +106,10 @@ module _ (r : Run) (e : Later) where
   hands-none h = λ i. flagsBy (λ k. none-handed h k i)
 
 -- taken flags are handed back, and none is held after it
-pub taken-is : (r : Run) → withFlags (flaggedWith (r ▸ takeFlags) (merged (flagsAt phaseAt r) (edges r takeFlags))) noFlags ≡ stateOf (r ▸ takeFlags)
-unfolding withFlags stateBy flagsAt flagged since wasTaken
+pub taken-is : (r : Run) → flaggedWith (r ▸ TakeFlags) noFlags ≡ stateOf (r ▸ TakeFlags)
+unfolding stateBy flagsAt flagged since wasTaken
 taken-is r = refl
 
-pub hands-held : (r : Run) → merged (flagsAt phaseAt r) (edges r takeFlags) ≡ flagsBy (λ k. handedBack phaseAt k (r ▸ takeFlags))
+pub hands-held : (r : Run) → all r TakeFlags ≡ flagsBy (λ k. handedBack phaseAt k (r ▸ TakeFlags))
 unfolding merged flagsAt handedBack wasTaken
 hands-held r = refl

@@ -15,7 +15,8 @@ use Rattle.settle_phases.specs.Order.{clearsOf, endsOf, phaseOf}
 use Rattle.settle_phases.specs.declared.tests.Tests.{Tests}
 use Rattle.settle_all.specs.Gather.{testsOf}
 use Rattle.settle_all.specs.Settle.{settledOf, settleOf}
-use Rattle.laws_account.specs.History.{Later, Run, powered, _▸_, since, sumAfter}
+use Rattle.laws_account.specs.History.{Run, powered, _▸_, since, sumAfter}
+use Rattle.step_turns.specs.declared.later.Later.{Later}
 use Rattle.laws_account.specs.Held.{profileOf, sampleOf, wasObserved, wasReset}
 use Rattle.laws_account.specs.Judged.{inputOk, inputGood, bandAt, permitted}
 use Rattle.laws_account.specs.Cycles.{Stage, trickle, precharge, fast, isDone, wasDone, restarts, starts, timeIn, timeFound, chargeEnds, phaseBy, phaseAt}

@@ -7,7 +7,8 @@ use Rattle.state_parts.specs.Numbers.{phaseNumber, bandNumber}
 use Rattle.state_parts.specs.declared.flags.Flags.{Flags}
 use Rattle.state_parts.specs.declared.phase.Phase.{Phase}
 use Rattle.settle_permission.specs.Bits.{iindpmOf, vindpmOf, thermalOf, shutdownOf}
-use Rattle.laws_account.specs.History.{Run, powered, _▸_, set, write, takeFlags, observe, service, reset, since}
+use Rattle.laws_account.specs.History.{Run, powered, _▸_, since}
+use Rattle.step_turns.specs.declared.later.Later.the-variants.{Set, Write, TakeFlags, Observe, Service, Reset}
 use Rattle.laws_account.specs.Held.{sampleOf, expired}
 use Rattle.laws_account.specs.Valued.{settingOf}
 use Rattle.laws_account.specs.Judged.{inputGood, inputOver, packOver, bandAt}
@@ -64,12 +65,12 @@ changes f (r ▸ e) = not (eqb (f r) (f (r ▸ e)))
 -- "hands back the held flags and clears them"
 unfoldable pub wasTaken : Run → Bool
 wasTaken (powered p) = false
-wasTaken (r ▸ set number value) = false
-wasTaken (r ▸ write address byte) = false
-wasTaken (r ▸ takeFlags) = true
-wasTaken (r ▸ observe x) = false
-wasTaken (r ▸ service) = false
-wasTaken (r ▸ reset) = false
+wasTaken (r ▸ Set number value) = false
+wasTaken (r ▸ Write address byte) = false
+wasTaken (r ▸ TakeFlags) = true
+wasTaken (r ▸ Observe x) = false
+wasTaken (r ▸ Service) = false
+wasTaken (r ▸ Reset) = false
 
 module _ (P : Run → Phase) where
   -- "bit 0 input good, 1 input lost, 2-4 IINDPM, VINDPM, thermal regulation begin, 5 watchdog expired, 6 phase changed, 7 band changed, 8 VIN over, 9 thermal shutdown,

@@ -8,7 +8,8 @@ use Rattle.state_parts.specs.declared.profile.Profile.{Profile}
 use Rattle.state_parts.specs.declared.sample.Sample.{Sample}
 use Rattle.state_start.specs.Values.{startSample}
 use Rattle.state_fields.specs.Rows.{takenOf, resetByte}
-use Rattle.laws_account.specs.History.{Run, powered, _▸_, set, write, takeFlags, observe, service, reset, sumAfter}
+use Rattle.laws_account.specs.History.{Run, powered, _▸_, sumAfter}
+use Rattle.step_turns.specs.declared.later.Later.the-variants.{Set, Write, TakeFlags, Observe, Service, Reset}
 
 unfoldable pub profileOf : Run → Profile
 profileOf (powered p) = p
@@ -17,51 +18,51 @@ profileOf (r ▸ e) = profileOf r
 -- "3. The new sample stands." "Other accepted events settle on the held sample; before the first observation after a power-on it is TS 55,000 and zeros."
 unfoldable pub sampleOf : Run → Sample
 sampleOf (powered p) = startSample p
-sampleOf (r ▸ set number value) = sampleOf r
-sampleOf (r ▸ write address byte) = sampleOf r
-sampleOf (r ▸ takeFlags) = sampleOf r
-sampleOf (r ▸ observe x) = x
-sampleOf (r ▸ service) = sampleOf r
-sampleOf (r ▸ reset) = sampleOf r
+sampleOf (r ▸ Set number value) = sampleOf r
+sampleOf (r ▸ Write address byte) = sampleOf r
+sampleOf (r ▸ TakeFlags) = sampleOf r
+sampleOf (r ▸ Observe x) = x
+sampleOf (r ▸ Service) = sampleOf r
+sampleOf (r ▸ Reset) = sampleOf r
 
 -- "Time since the last stamp", of the last event: only an observation brings any
 unfoldable pub elapsed : Run → ℕ
 elapsed (powered p) = 0
-elapsed (r ▸ set number value) = 0
-elapsed (r ▸ write address byte) = 0
-elapsed (r ▸ takeFlags) = 0
-elapsed (r ▸ observe x) = elapsedOf (sampleOf r .stamp) (x .stamp)
-elapsed (r ▸ service) = 0
-elapsed (r ▸ reset) = 0
+elapsed (r ▸ Set number value) = 0
+elapsed (r ▸ Write address byte) = 0
+elapsed (r ▸ TakeFlags) = 0
+elapsed (r ▸ Observe x) = elapsedOf (sampleOf r .stamp) (x .stamp)
+elapsed (r ▸ Service) = 0
+elapsed (r ▸ Reset) = 0
 
 -- what the last event was
 unfoldable pub wasObserved : Run → Bool
 wasObserved (powered p) = false
-wasObserved (r ▸ set number value) = false
-wasObserved (r ▸ write address byte) = false
-wasObserved (r ▸ takeFlags) = false
-wasObserved (r ▸ observe x) = true
-wasObserved (r ▸ service) = false
-wasObserved (r ▸ reset) = false
+wasObserved (r ▸ Set number value) = false
+wasObserved (r ▸ Write address byte) = false
+wasObserved (r ▸ TakeFlags) = false
+wasObserved (r ▸ Observe x) = true
+wasObserved (r ▸ Service) = false
+wasObserved (r ▸ Reset) = false
 
 unfoldable pub wasReset : Run → Bool
 wasReset (powered p) = false
-wasReset (r ▸ set number value) = false
-wasReset (r ▸ write address byte) = false
-wasReset (r ▸ takeFlags) = false
-wasReset (r ▸ observe x) = false
-wasReset (r ▸ service) = false
-wasReset (r ▸ reset) = true
+wasReset (r ▸ Set number value) = false
+wasReset (r ▸ Write address byte) = false
+wasReset (r ▸ TakeFlags) = false
+wasReset (r ▸ Observe x) = false
+wasReset (r ▸ Service) = false
+wasReset (r ▸ Reset) = true
 
 -- "service or a reset zeroes it"
 unfoldable pub wasServed : Run → Bool
 wasServed (powered p) = false
-wasServed (r ▸ set number value) = false
-wasServed (r ▸ write address byte) = false
-wasServed (r ▸ takeFlags) = false
-wasServed (r ▸ observe x) = false
-wasServed (r ▸ service) = true
-wasServed (r ▸ reset) = true
+wasServed (r ▸ Set number value) = false
+wasServed (r ▸ Write address byte) = false
+wasServed (r ▸ TakeFlags) = false
+wasServed (r ▸ Observe x) = false
+wasServed (r ▸ Service) = true
+wasServed (r ▸ Reset) = true
 
 -- "2. The watchdog adds the time (a period 0 counts nothing); reaching its period expires it"
 unfoldable pub unserved : Run → ℕ
@@ -87,12 +88,12 @@ weightOf ichg = 8
 -- "0x1B and 0x1C start with pin codes, overrides 0." "reaching its period expires it: all three overrides clear". "Register reset .. clears overrides"
 unfoldable pub overridden : Pin → Run → Bool
 overridden k (powered p) = false
-overridden k (r ▸ set number value) = overridden k r
-overridden k (r ▸ write address byte) = pick (eqb address (addressOf k)) (eqb (byte / weightOf k % 2) 1) (overridden k r)
-overridden k (r ▸ takeFlags) = overridden k r
-overridden k (r ▸ observe x) = overridden k r && not (not (expired r) && expired (r ▸ observe x))
-overridden k (r ▸ service) = overridden k r
-overridden k (r ▸ reset) = false
+overridden k (r ▸ Set number value) = overridden k r
+overridden k (r ▸ Write address byte) = pick (eqb address (addressOf k)) (eqb (byte / weightOf k % 2) 1) (overridden k r)
+overridden k (r ▸ TakeFlags) = overridden k r
+overridden k (r ▸ Observe x) = overridden k r && not (not (expired r) && expired (r ▸ Observe x))
+overridden k (r ▸ Service) = overridden k r
+overridden k (r ▸ Reset) = false
 
 -- "CELL_PIN takes a written count only if CELL_PIN_OVERRIDE stood before the write, the count is 1-7 and it differs."; `cells` is the count held before
 abbrev pub takes : Run → ℕ → ℕ → ℕ → Bool
@@ -101,12 +102,12 @@ takes r cells address byte = eqb address 0x1B && overridden cell r && not (eqb (
 -- the CELL_PIN held: a register reset "leaves pin codes"
 unfoldable pub cellsOf : Run → ℕ
 cellsOf (powered p) = p .cell
-cellsOf (r ▸ set number value) = cellsOf r
-cellsOf (r ▸ write address byte) = pick (takes r (cellsOf r) address byte) (byte % 8) (cellsOf r)
-cellsOf (r ▸ takeFlags) = cellsOf r
-cellsOf (r ▸ observe x) = cellsOf r
-cellsOf (r ▸ service) = cellsOf r
-cellsOf (r ▸ reset) = cellsOf r
+cellsOf (r ▸ Set number value) = cellsOf r
+cellsOf (r ▸ Write address byte) = pick (takes r (cellsOf r) address byte) (byte % 8) (cellsOf r)
+cellsOf (r ▸ TakeFlags) = cellsOf r
+cellsOf (r ▸ Observe x) = cellsOf r
+cellsOf (r ▸ Service) = cellsOf r
+cellsOf (r ▸ Reset) = cellsOf r
 
 -- the byte of an address from 0x15 to 0x1A. "Register reset restores .. the resets above ..; it leaves .. 0x19 bit 7."
 abbrev pub restored : ℕ → ℕ → ℕ
@@ -114,9 +115,9 @@ restored address held = pick (eqb address 0x19) (held / 128 * 128 + resetByte ad
 
 unfoldable pub byteOf : ℕ → Run → ℕ
 byteOf at (powered p) = resetByte at
-byteOf at (r ▸ set number value) = byteOf at r
-byteOf at (r ▸ write address byte) = pick (eqb address at) (takenOf false at (byteOf at r) byte) (byteOf at r)
-byteOf at (r ▸ takeFlags) = byteOf at r
-byteOf at (r ▸ observe x) = byteOf at r
-byteOf at (r ▸ service) = byteOf at r
-byteOf at (r ▸ reset) = restored at (byteOf at r)
+byteOf at (r ▸ Set number value) = byteOf at r
+byteOf at (r ▸ Write address byte) = pick (eqb address at) (takenOf false at (byteOf at r) byte) (byteOf at r)
+byteOf at (r ▸ TakeFlags) = byteOf at r
+byteOf at (r ▸ Observe x) = byteOf at r
+byteOf at (r ▸ Service) = byteOf at r
+byteOf at (r ▸ Reset) = restored at (byteOf at r)

@@ -5,40 +5,7 @@ use mathlib.Core.Bool.{Bool, _&&_, _||_}
 use lib.Dec.{leb}
 use Rattle.base.specs.Pick.{pick}
 use Rattle.state_parts.specs.declared.profile.Profile.{Profile}
-use Rattle.state_parts.specs.declared.sample.Sample.{Sample}
-use Rattle.log_event.specs.declared.Event.{Event}
-use Rattle.log_event.specs.declared.Event.the-variants.{PowerOn, Set, Write, TakeFlags, Observe, Service, Reset}
-
--- what may follow a power-on: every kind of event but another one, which begins a run of its own
-pub data Later : Type 0 where
-  set : ℕ → ℕ → Later
-  write : ℕ → ℕ → Later
-  takeFlags : Later
-  observe : Sample → Later
-  service : Later
-  reset : Later
-
-abbrev pub asEvent : Later → Event
-asEvent (set number value) = Set number value
-asEvent (write address byte) = Write address byte
-asEvent takeFlags = TakeFlags
-asEvent (observe x) = Observe x
-asEvent service = Service
-asEvent reset = Reset
-
--- each event is the one or the other
-pub data Turn : Type 0 where
-  opens : Profile → Turn
-  follows : Later → Turn
-
-abbrev pub turnOf : Event → Turn
-turnOf (PowerOn p) = opens p
-turnOf (Set number value) = follows (set number value)
-turnOf (Write address byte) = follows (write address byte)
-turnOf TakeFlags = follows takeFlags
-turnOf (Observe x) = follows (observe x)
-turnOf Service = follows service
-turnOf Reset = follows reset
+use Rattle.step_turns.specs.declared.later.Later.{Later}
 
 infixl 20 _▸_
 -- the events since a power-on, in order: the last is outermost. Each run is also a moment, the one after its last event

@@ -8,11 +8,11 @@ use Rattle.state_parts.specs.declared.phase.Phase.{Phase}
 use Rattle.state_parts.specs.declared.state.Model.{Model}
 use Rattle.state_parts.specs.declared.state.Model.the-variants.{Off, On}
 use Rattle.log_event.specs.declared.Event.{Event}
-use Rattle.log_event.specs.declared.Event.the-variants.{PowerOn}
-use Rattle.step_event.specs.Steps.{stepOf}
+use Rattle.step_turns.specs.declared.turn.Turn.the-variants.{Opens, Follows}
+use Rattle.step_event.specs.Steps.{turnedBy, stepOf}
 use Rattle.step_event.specs.Pages.{wholeOf}
 use Rattle.step_event.specs.Wholes.{eventsOf}
-use Rattle.laws_account.specs.History.{asEvent, Run, powered, _▸_}
+use Rattle.laws_account.specs.History.{Run, powered, _▸_}
 use Rattle.laws_account.specs.Judged.{permitted, suspended, rechargeDue}
 use Rattle.laws_account.specs.Cycles.{fault, wasDone, restarts, Keeps, phaseAt}
 use Rattle.laws_account.specs.Refused.{Accepted, Past, none, some, refusalOf, pastOf}
@@ -20,8 +20,8 @@ use Rattle.laws_account.specs.States.{stateOf, modelOf, outcomeOf}
 
 -- the model after a run
 unfoldable pub runOf : Run → Model
-runOf (powered p) = stepOf Off (PowerOn p) .model
-runOf (r ▸ e) = stepOf (runOf r) (asEvent e) .model
+runOf (powered p) = turnedBy Off (Opens p) .model
+runOf (r ▸ e) = turnedBy (runOf r) (Follows e) .model
 
 -- after every run of accepted events the model is as the account says
 abbrev pub AccountIsModel : Type 0

@@ -16,7 +16,7 @@ use Rattle.state_parts.specs.declared.state.Model.{Model}
 use Rattle.state_parts.specs.declared.state.Model.the-variants.{Off, On}
 use Rattle.state_parts.specs.declared.watchdog.Watchdog.{Watchdog}
 use Rattle.log_event.specs.declared.Event.{Event}
-use Rattle.step_kinds.specs.Plain.{Outcome, refusedWith}
+use Rattle.step_kinds.specs.Answers.{Outcome, refusedWith}
 use Rattle.laws_account.specs.History.{Run}
 use Rattle.laws_account.specs.Held.{profileOf, sampleOf, unserved, vchg, cell, ichg, overridden, cellsOf, byteOf}
 use Rattle.laws_account.specs.Valued.{settingOf}

@@ -9,7 +9,8 @@ use Rattle.state_parts.specs.Pins.{vchgOf}
 use Rattle.state_parts.specs.declared.profile.Profile.{Profile}
 use Rattle.state_start.specs.Values.{startVsysmin, startSettings}
 use Rattle.state_settings.specs.Numbered.{heldOf}
-use Rattle.laws_account.specs.History.{Run, powered, _▸_, set, write, takeFlags, observe, service, reset}
+use Rattle.laws_account.specs.History.{Run, powered, _▸_}
+use Rattle.step_turns.specs.declared.later.Later.the-variants.{Set, Write, TakeFlags, Observe, Service, Reset}
 use Rattle.laws_account.specs.Held.{profileOf, vchg, ichg, overridden, takes, cellsOf}
 
 -- "Pin fault: CELL_PIN 0; vchg or ichg code 0 without its override."
@@ -34,13 +35,13 @@ forced r number value = pick (eqb number 9 && pinFault r) 0 value
 -- the value that the last event gives a setting or leaves it, before EN_CHG is forced; `held` is the value before
 abbrev pub givenBy : ℕ → Run → ℕ → ℕ
 givenBy number (powered p) held = startValue p (p .cell) number
-givenBy number (r ▸ set n value) held = pick (eqb n number) value held
-givenBy number (r ▸ write address byte) held =
+givenBy number (r ▸ Set n value) held = pick (eqb n number) value held
+givenBy number (r ▸ Write address byte) held =
     pick (takes r (cellsOf r) address byte) (recounted (profileOf r) (byte % 8) number held) held
-givenBy number (r ▸ takeFlags) held = held
-givenBy number (r ▸ observe x) held = held
-givenBy number (r ▸ service) held = held
-givenBy number (r ▸ reset) held = startValue (profileOf r) (cellsOf r) number
+givenBy number (r ▸ TakeFlags) held = held
+givenBy number (r ▸ Observe x) held = held
+givenBy number (r ▸ Service) held = held
+givenBy number (r ▸ Reset) held = startValue (profileOf r) (cellsOf r) number
 
 unfoldable pub settingOf : ℕ → Run → ℕ
 settingOf number (powered p) = forced (powered p) number (givenBy number (powered p) 0)

@@ -12,7 +12,8 @@ use Rattle.state_parts.specs.declared.phase.Phase.the-variants.{Trickle, Precha
 use Rattle.state_parts.specs.declared.profile.Profile.{Profile}
 use Rattle.settle_phases.specs.Order.{charging, firstPhase}
 use Rattle.settle_permission.specs.Bits.{shutdownOf}
-use Rattle.laws_account.specs.History.{Later, Run, powered, _▸_, since, sumAfter}
+use Rattle.laws_account.specs.History.{Run, powered, _▸_, since, sumAfter}
+use Rattle.step_turns.specs.declared.later.Later.{Later}
 use Rattle.laws_account.specs.Held.{profileOf, sampleOf, wasReset}
 use Rattle.laws_account.specs.Judged.{inputOk, inputGood, short, low, packOver, permitted, suspended, tapering, rechargeDue}
 use Rattle.laws_account.specs.Cycles.{Stage, trickle, precharge, fast, limitOf, reaches, gave, isDone, wasDone, restarts, starts, timeIn, timeFound, limitFound, fault, chargeEnds, phaseBy, limitReached, Keeps}

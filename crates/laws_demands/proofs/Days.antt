@@ -13,7 +13,8 @@ use Rattle.state_parts.specs.declared.state.State.{State}
 use Rattle.state_parts.specs.declared.state.Model.{Model}
 use Rattle.state_parts.specs.declared.state.Model.the-variants.{Off, On}
 use Rattle.log_number.specs.Promises.{Bytes}
-use Rattle.laws_account.specs.History.{Run, powered, _▸_, observe}
+use Rattle.laws_account.specs.History.{Run, powered, _▸_}
+use Rattle.step_turns.specs.declared.later.Later.the-variants.{Observe}
 
 -- the paper's power-on, with a fast limit of so many seconds
 abbrev pub limited : ℕ → Profile
@@ -31,19 +32,19 @@ abbrev pub sampled : Sample
 sampled = seen 1000 7600 55000
 
 abbrev pub first : Run
-first = powered paper ▸ observe sampled
+first = powered paper ▸ Observe sampled
 
 -- in precharge, cool
 abbrev pub cool : Run
-cool = powered paper ▸ observe (seen 1000 5000 70000)
+cool = powered paper ▸ Observe (seen 1000 5000 70000)
 
 -- a second in fast charge, which is its limit, in two samples
 abbrev pub second : Run
-second = powered (limited 1) ▸ observe (seen 0 7600 55000) ▸ observe (seen 500 7600 55000) ▸ observe sampled
+second = powered (limited 1) ▸ Observe (seen 0 7600 55000) ▸ Observe (seen 500 7600 55000) ▸ Observe sampled
 
 -- with no limit for fast charge
 abbrev pub unlimited : Run
-unlimited = powered (limited 0) ▸ observe sampled
+unlimited = powered (limited 0) ▸ Observe sampled
 
 -- a number of a model's state
 abbrev pub held : (State → ℕ) → Model → ℕ

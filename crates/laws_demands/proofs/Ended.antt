@@ -6,7 +6,8 @@ use Rattle.state_parts.specs.Numbers.{phaseNumber}
 use Rattle.state_parts.specs.declared.phase.Phase.{Phase}
 use Rattle.state_parts.specs.declared.profile.Profile.{Profile}
 use Rattle.settle_phases.specs.Order.{firstPhase}
-use Rattle.laws_account.specs.History.{Later, Run, powered, _▸_, since}
+use Rattle.laws_account.specs.History.{Run, powered, _▸_, since}
+use Rattle.step_turns.specs.declared.later.Later.{Later}
 use Rattle.laws_account.specs.Held.{sampleOf, wasReset}
 use Rattle.laws_account.specs.Judged.{inputOk, inputGood, short, low, permitted, suspended, tapering, rechargeDue}
 use Rattle.laws_account.specs.Cycles.{numberAt, isDone, wasDone, restarts, starts, fault, chargeEnds, phaseBy, phaseAt}

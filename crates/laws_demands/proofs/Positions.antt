@@ -9,7 +9,8 @@ use borrow.Author.Tests.{le-leb, lt-leb, leb-true, leb-false}
 use Rattle.base.specs.Pick.{pick}
 use Rattle.base.proofs.Tests.{and-iff}
 use Rattle.state_parts.specs.declared.profile.Profile.{Profile}
-use Rattle.laws_account.specs.History.{Later, Run, powered, _▸_, since, Since, sumAfter, count, upTo, lastOf, total}
+use Rattle.laws_account.specs.History.{Run, powered, _▸_, since, Since, sumAfter, count, upTo, lastOf, total}
+use Rattle.step_turns.specs.declared.later.Later.{Later}
 use Rattle.laws_demands.proofs.Means.{Means, or-cases, or-left, or-right}
 
 -- the moment i of r ▸ e: that of r, or the last

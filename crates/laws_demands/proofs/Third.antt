@@ -10,7 +10,8 @@ use Rattle.state_parts.specs.declared.profile.Profile.{Profile}
 use Rattle.settle_phases.specs.Order.{charging}
 use Rattle.report_state.specs.Report.{currentIn, reportOf}
 use Rattle.step_event.specs.Steps.{stepOf}
-use Rattle.laws_account.specs.History.{Later, asEvent, Run, powered, _▸_}
+use Rattle.laws_account.specs.History.{Run, powered, _▸_}
+use Rattle.step_turns.specs.declared.later.Later.{Later}
 use Rattle.laws_account.specs.Held.{profileOf, ichg, overridden}
 use Rattle.laws_account.specs.Valued.{settingOf}
 use Rattle.laws_account.specs.Judged.{chargeClamp, bandAt, shareIn, short, low, tapering}

@@ -19,7 +19,7 @@ use Rattle.report_state.specs.declared.answer.Report.{Report}
 use Rattle.report_state.specs.Report.{reportOf}
 use Rattle.step_kinds.specs.Plain.{Outcome}
 use Rattle.step_event.specs.Pages.{wholeOf}
-use Rattle.laws_account.specs.History.{Run, powered, _▸_, asEvent}
+use Rattle.laws_account.specs.History.{Run, powered, _▸_}
 use Rattle.laws_account.specs.Held.{profileOf, sampleOf, ichg, overridden, cellsOf}
 use Rattle.laws_account.specs.Valued.{settingOf}
 use Rattle.laws_account.specs.Judged.{packClamp, chargeClamp, isetc, vset, bandAt, shareIn, cutIn}

@@ -3,7 +3,8 @@ use Prim.Native.Nat.{ℕ}
 use mathlib.Core.Path.{_≡_}
 use mathlib.Core.Bool.{false}
 use lib.Dec.{eqb}
-use Rattle.laws_account.specs.History.{set, Run, _▸_}
+use Rattle.laws_account.specs.History.{Run, _▸_}
+use Rattle.step_turns.specs.declared.later.Later.the-variants.{Set}
 use Rattle.laws_account.specs.Held.{ichg, overridden}
 use Rattle.laws_account.specs.Cycles.{Stage, trickle, precharge, fast}
 use Rattle.laws_account.specs.Refused.{Accepted}
@@ -27,7 +28,7 @@ partOf noLimit r = (s : Stage) → ¬ Reached s r
 -- a run that fails just this one
 abbrev pub stopped : Part → Run
 stopped goodInput = inputs 12000 2000
-stopped permission = dayAt 3 ▸ set 9 0
+stopped permission = dayAt 3 ▸ Set 9 0
 stopped noFault = dayAt 3 ▸ sees 4000 12000 7000 500 55000 32
 stopped noSuspension = mild 80000
 stopped notDone = dayAt 5

@@ -2,7 +2,9 @@
 use Prim.Native.Nat.{ℕ}
 use lib.IntN.{pos}
 use Rattle.state_parts.specs.declared.profile.Profile.{Profile}
-use Rattle.laws_account.specs.History.{Later, set, write, observe, Run, powered, _▸_, upTo}
+use Rattle.laws_account.specs.History.{Run, powered, _▸_, upTo}
+use Rattle.step_turns.specs.declared.later.Later.{Later}
+use Rattle.step_turns.specs.declared.later.Later.the-variants.{Set, Write, Observe}
 
 -- two cells of 4,200 mV, pin 1,500 mA; limits of 30, 40 and 20 s
 abbrev pub pack : Profile
@@ -14,7 +16,7 @@ watched = record { cell = 2; vchg = 5; ichg = 1; ohms = 0; stamp = 0; ceiling = 
 
 -- stamp, VIN, VBAT, IBAT, TS and bits
 abbrev pub sees : ℕ → ℕ → ℕ → ℕ → ℕ → ℕ → Later
-sees stamp input pack ibat ts bits = observe (record { stamp = stamp; input = input; pack = pack; ibat = pos ibat; ts = ts; bits = bits })
+sees stamp input pack ibat ts bits = Observe (record { stamp = stamp; input = input; pack = pack; ibat = pos ibat; ts = ts; bits = bits })
 
 -- a good input, TS normal, no bit: stamp and VBAT
 abbrev pub seen : ℕ → ℕ → Later
@@ -33,8 +35,8 @@ day =
     ▸ sees 7000 12000 8300 0 55000 0
     ▸ seen 8000 8000
     ▸ seen 28000 8000
-    ▸ set 9 0
-    ▸ set 9 1
+    ▸ Set 9 0
+    ▸ Set 9 1
 
 -- the moment after the day's first i events
 abbrev pub dayAt : ℕ → Run
@@ -46,7 +48,7 @@ slow stamp = powered pack ▸ sees 1000 12000 7000 500 55000 4 ▸ sees 21000 12
 
 -- ICHG's pin overridden, until the watchdog expires
 unfoldable pub unattended : ℕ → Run
-unattended stamp = powered watched ▸ write 0x1C 8 ▸ set 2 2000 ▸ seen 1000 7000 ▸ seen stamp 7000
+unattended stamp = powered watched ▸ Write 0x1C 8 ▸ Set 2 2000 ▸ seen 1000 7000 ▸ seen stamp 7000
 
 -- one observation in fast with this TS
 unfoldable pub mild : ℕ → Run

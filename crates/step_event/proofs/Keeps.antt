@@ -190,6 +190,10 @@ passes m (refuses r) (inl none) = absurd (omega (arith, some-number r))
 passes m (refuses r) (inr ok) = ok
 passes m (settles written way k) h = flagged-passes (settleOf written (observing way)) _ (settled-passes written (observing way) k)
 
+-- the same of a turn
+pub turned-passes : (m : Model) (t : Turn) → TurnFits t → turnedBy m t .number ≡ 0 → modelOk (turnedBy m t .model) ≡ true
+turned-passes m t fits none = passes m (comes-by m t fits) (inl none)
+
 pub accepted-passes : AcceptedPasses
 accepted-passes m event none = passes m (comes m event) (inl none)
 
