@@ -10,7 +10,7 @@ mod Judging
 pub mod Settling
 mod Raising
 mod Starting
-mod Powering
+pub mod Powering
 mod Stepping
 pub mod Agreeing
 pub mod Logging

@@ -6,8 +6,8 @@ use lib.Dec.{eqb·suc-zero}
 use Rattle.base.specs.Units.{inPack, belowShare}
 use Rattle.state_parts.specs.declared.state.State.{State}
 use Rattle.state_parts.specs.declared.state.Model.{Model}
-use Rattle.state_parts.specs.declared.state.Model.the-variants.{On}
-use Rattle.log_event.specs.declared.Event.the-variants.{Observe}
+use Rattle.state_parts.specs.declared.state.Model.the-variants.{Off, On}
+use Rattle.log_event.specs.declared.Event.the-variants.{PowerOn, Observe}
 use Rattle.state_start.specs.Values.{startOf, startSettings, startVreg, startIchg, startVsysmin}
 use Rattle.state_settings.specs.Kept.{settingsOk}
 use Rattle.state_settings.specs.Numbered.{heldOf, settingNumbers}
@@ -27,29 +27,31 @@ use Rattle.settle_phases.specs.Cycles.{cycleOf}
 use Rattle.settle_phases.specs.Order.{phaseOf, clearsOf, endsOf, judgedOf, restartsOf}
 use Rattle.settle_all.specs.Gather.{testsOf}
 use Rattle.settle_all.specs.Settle.{settleOf, forcedOf, settledOf}
-use Rattle.step_kinds.specs.Plain.{poweredOf, powerOnOf}
-use Rattle.step_kinds.specs.Finish.{withFlags}
-use Rattle.step_event.specs.Steps.{stepOf, firstOf}
-use Rattle.laws_account.specs.History.{powered}
+use Rattle.state_parts.specs.With.{withCycle}
+use Rattle.step_turns.specs.Ranges.{profileInRange}
+use Rattle.step_turns.specs.Turns.{heldProfile, turnOf}
+use Rattle.step_kinds.specs.Finish.{finishOf}
+use Rattle.step_event.specs.Steps.{stepOf, turnedBy, changeOf, firstOf}
+use Rattle.laws_account.proofs.Powering.{poweredOf}
 use Rattle.laws_demands.specs.Demand.{ranBy}
-use Rattle.laws_demands.specs.Wrong.{withCycle, inventsTimes}
-use Rattle.laws_demands.proofs.Days.{limited, sampled, unlimited}
+use Rattle.laws_demands.specs.Wrong.{inventsTimes}
+use Rattle.laws_demands.proofs.Days.{limited, sampled, unlimitedEvents}
 
 abbrev pub invented : ℕ → State
-invented time = let s = poweredOf (limited 0) in withCycle s (record { trickle = s .cycle .trickle; precharge = s .cycle .precharge; fast = time; done = s .cycle .done })
+invented time = let s = poweredOf (heldProfile (limited 0)) in withCycle s (record { trickle = s .cycle .trickle; precharge = s .cycle .precharge; fast = time; done = s .cycle .done })
 
-begins : (time : ℕ) → ranBy (inventsTimes time) (powered (limited 0)) ≡ On (invented time)
-unfolding ranBy inventsTimes stepOf firstOf powerOnOf profileOk
+begins : (time : ℕ) → inventsTimes time Off (PowerOn (limited 0)) .model ≡ On (invented time)
+unfolding inventsTimes stepOf turnedBy turnOf changeOf firstOf finishOf profileInRange
 begins time = refl
 
 unfit : (t : ℕ) → stateOk (invented (suc t)) ≡ false
-unfolding stateOk poweredOf profileOk settingsOk registersOk cycleOk watchdogOk sampleOk withFlags settleOf startOf forcedOf latchesOf bandOf settledOf testsOf startSettings mayHold heldOf shownOf faultOf baseOf shortOf lowOf packOverOf cycleOf phaseOf permittedOf suspendsOf belowRecharge taperOf chargeVoltageOf endingOf startVreg startIchg startVsysmin rangeOf settingNumbers fieldsAt packClampOf inPack belowShare clearsOf endsOf judgedOf reachedOf cutOf regulatedOf ranges fields restartsOf
+unfolding stateOk profileOk settingsOk registersOk cycleOk watchdogOk sampleOk settleOf startOf forcedOf latchesOf bandOf settledOf testsOf startSettings mayHold heldOf shownOf faultOf baseOf shortOf lowOf packOverOf cycleOf phaseOf permittedOf suspendsOf belowRecharge taperOf chargeVoltageOf endingOf startVreg startIchg startVsysmin rangeOf settingNumbers fieldsAt packClampOf inPack belowShare clearsOf endsOf judgedOf reachedOf cutOf regulatedOf ranges fields restartsOf
 unfit t = simp eqb·suc-zero
 
 refuses : (t : ℕ) → inventsTimes (suc t) (On (invented (suc t))) (Observe sampled) .model ≡ On (invented (suc t))
-unfolding inventsTimes stepOf
+unfolding inventsTimes stepOf turnedBy turnOf changeOf
 refuses t = simp (unfit t)
 
-pub stands : (t : ℕ) → ranBy (inventsTimes (suc t)) unlimited ≡ On (invented (suc t))
+pub stands : (t : ℕ) → ranBy (inventsTimes (suc t)) Off unlimitedEvents ≡ On (invented (suc t))
 unfolding ranBy
 stands t = ap (λ (m : Model). inventsTimes (suc t) m (Observe sampled) .model) (begins (suc t)) ∙ refuses t

@@ -19,7 +19,7 @@ use Rattle.step_event.specs.Steps.{stepOf}
 use Rattle.step_event.specs.Walks.{numberAfter, metBy, metOf, afterRead, walkOf, startWalk}
 use Rattle.step_event.specs.Pages.{Passed, passedBy, pageOf, wholeOf, endBy}
 use Rattle.step_event.specs.declared.walking.Walk.{Walk}
-use Rattle.step_kinds.specs.Plain.{Outcome}
+use Rattle.step_kinds.specs.Answers.{Outcome}
 use Rattle.laws_demands.specs.Printed.{lineBy, linesBy, Log, readOn, logFrom, printedBy}
 use Rattle.laws_demands.specs.Ours.{ourRun, ourRead}
 

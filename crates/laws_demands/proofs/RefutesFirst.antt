@@ -36,12 +36,16 @@ use Rattle.settle_phases.specs.Cycles.{cycleOf}
 use Rattle.settle_phases.specs.Order.{phaseOf, clearsOf, endsOf, judgedOf, restartsOf}
 use Rattle.settle_all.specs.Gather.{testsOf}
 use Rattle.settle_all.specs.Settle.{settleOf, forcedOf, settledOf}
-use Rattle.step_flags.specs.Edges.{edgesOf, seenOf, expiresOf, phaseChanges, bandChanges, reachesOf}
+use Rattle.step_flags.specs.Edges.{edgesOf, seenOf}
 use Rattle.step_flags.specs.Expiry.{expiredOf}
-use Rattle.step_kinds.specs.Finish.{withFlags, finishOf}
-use Rattle.step_kinds.specs.Plain.{poweredOf, powerOnOf, setOf, writeEventOf, takeFlagsOf, serviceOf, resetEventOf}
+use Rattle.step_kinds.specs.Finish.{finishOf}
+use Rattle.step_kinds.specs.Answers.{Outcome}
+use Rattle.step_kinds.specs.Plain.{setOf, writtenOf}
+use Rattle.step_turns.specs.Ranges.{profileInRange, sampleInRange}
+use Rattle.step_turns.specs.Turns.{heldProfile, turnOf}
 use Rattle.step_event.specs.Clock.{observedOf, countedOf, clearedIf, timesOf, unitsOf}
-use Rattle.step_event.specs.Steps.{stepOf, firstOf, movedOf, observeOf}
+use Rattle.step_event.specs.Steps.{stepOf, turnedBy, changeOf, firstOf, movedOf, followedOf, observeOf, seenOn}
+use Rattle.laws_account.proofs.Powering.{poweredOf}
 use Rattle.laws_demands.specs.First.{ReadAt, end, WrittenIn, no-room}
 use Rattle.laws_demands.specs.Refuted.{FirstRefuted}
 use Rattle.laws_demands.proofs.Days.{paper, held, differ, one-byte}
@@ -56,10 +60,10 @@ stays : (buffer after : List ℕ) (n place : ℕ) → WrittenIn buffer (answer.r
 stays buffer after n place no-room = refl
 
 pub first-refuted : FirstRefuted
-unfolding forgets stopsAlways spills poweredOf stepOf written spellEvent withFlags settleOf startOf firstOf stateOk movedOf spellItems forcedOf latchesOf bandOf settledOf testsOf startSettings powerOnOf profileOk settingsOk registersOk cycleOk watchdogOk sampleOk setOf writeEventOf takeFlagsOf observeOf serviceOf resetEventOf faultOf baseOf shortOf lowOf packOverOf cycleOf phaseOf permittedOf suspendsOf belowRecharge taperOf chargeVoltageOf endingOf startVreg startIchg startVsysmin mayHold finishOf storeOf writeOf observedOf resetOf spell packClampOf inPack belowShare clearsOf endsOf judgedOf reachedOf cutOf regulatedOf heldOf shownOf rangeOf edgesOf merged pulseOf writtenTo countedOf expiredOf clearedIf timesOf unitsOf restored groups restartsOf settingNumbers fieldsAt ranges seenOf expiresOf phaseChanges bandChanges reachesOf recounted placed takenOf byteAt fields
+unfolding forgets stopsAlways spills stepOf written spellEvent settleOf startOf firstOf stateOk movedOf spellItems forcedOf latchesOf bandOf settledOf testsOf startSettings profileOk settingsOk registersOk cycleOk watchdogOk sampleOk setOf observeOf faultOf baseOf shortOf lowOf packOverOf cycleOf phaseOf permittedOf suspendsOf belowRecharge taperOf chargeVoltageOf endingOf startVreg startIchg startVsysmin mayHold finishOf storeOf writeOf observedOf resetOf spell packClampOf inPack belowShare clearsOf endsOf judgedOf reachedOf cutOf regulatedOf heldOf shownOf rangeOf edgesOf merged pulseOf writtenTo countedOf expiredOf clearedIf timesOf unitsOf restored groups restartsOf settingNumbers fieldsAt ranges seenOf recounted placed takenOf byteAt fields turnedBy changeOf followedOf writtenOf turnOf profileInRange sampleInRange seenOn
 first-refuted = record {
   forgotten = λ read write d.
-      differ 0 1 refl (ap (held (λ s. 1)) (d .steps (On (poweredOf paper)) (Set 15 0) .refused (λ z. omega arith) .model));
+      differ 0 1 refl (ap (held (λ s. 1)) (d .steps (On (poweredOf (heldProfile paper))) (Set 15 0) .refused (λ z. omega arith) .model));
   stopped = λ step write d. let z = ends-late (4 ∷ []) (d .reads (4 ∷ []) one-byte 0) in absurd (omega arith);
   spilt = λ step read d. differ 2 0 refl (ap (λ l. getD l 0 0) (stays (0 ∷ []) (2 ∷ []) 12 0 (d .writes (Set 1 1) (0 ∷ []))));
 }

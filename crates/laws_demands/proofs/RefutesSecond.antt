@@ -42,16 +42,19 @@ use Rattle.report_state.specs.Lines.{lineOf}
 use Rattle.report_state.specs.Report.{fastCurrent, reportOf, chargeClampOf, inputLimitOf}
 use Rattle.settle_all.specs.Gather.{testsOf}
 use Rattle.settle_all.specs.Settle.{settledOf, settleOf, forcedOf}
-use Rattle.step_flags.specs.Edges.{edgesOf, seenOf, expiresOf, phaseChanges, bandChanges, reachesOf}
+use Rattle.step_flags.specs.Edges.{edgesOf, seenOf}
 use Rattle.step_flags.specs.Expiry.{expiredOf}
-use Rattle.step_kinds.specs.Plain.{Outcome, powerOnOf, setOf, writeEventOf, takeFlagsOf, serviceOf, resetEventOf, poweredOf}
-use Rattle.step_kinds.specs.Finish.{finishOf, withFlags}
+use Rattle.step_kinds.specs.Answers.{Outcome}
+use Rattle.step_kinds.specs.Plain.{setOf, writtenOf}
+use Rattle.step_turns.specs.Ranges.{profileInRange, sampleInRange}
+use Rattle.step_turns.specs.Turns.{heldProfile, turnOf}
+use Rattle.step_kinds.specs.Finish.{finishOf}
 use Rattle.step_event.proofs.Numbered.{some-number}
 use Rattle.step_event.specs.Clock.{observedOf, timesOf, unitsOf, countedOf, clearedIf}
 use Rattle.step_event.specs.Pages.{wholeOf, pageOf}
-use Rattle.step_event.specs.Steps.{stepOf, firstOf, movedOf, observeOf}
+use Rattle.step_event.specs.Steps.{stepOf, turnedBy, changeOf, firstOf, movedOf, followedOf, observeOf, seenOn}
 use Rattle.step_event.specs.Walks.{startWalk, walkOf, metBy}
-use Rattle.laws_account.specs.History.{powered, count, since, sumAfter}
+use Rattle.laws_account.specs.History.{count, since, sumAfter}
 use Rattle.laws_account.specs.Refused.{Past, none, some, refusalOf, nextOf, refusalIn}
 use Rattle.laws_account.specs.Cycles.{phaseAt, phasesOf, phaseBy, timeIn, isDone, fault, wasDone, chargeEnds, starts, gave, limitReached, limitFound, restarts, unitsOf as unitsOfHistory, timeFound}
 use Rattle.laws_account.specs.Flagged.{pulsed, handedBack, flagged, edge, wasTaken}
@@ -62,7 +65,7 @@ use Rattle.laws_account.specs.Valued.{settingOf, pinFault, startValue}
 use Rattle.laws_demands.specs.Printed.{Printed, printedBy, logFrom, linesBy, lineBy}
 use Rattle.laws_demands.specs.Refuted.{WriteBreaks, SecondRefuted}
 use Rattle.laws_demands.specs.Wrong.{writesConstant, refusesAlways, reportsZeros, ignoresEvents, worksOnce, inventsTimes, inventsCounts}
-use Rattle.laws_demands.proofs.Days.{paper, seen, sampled, first, cool, held, differ, no-byte, one-byte}
+use Rattle.laws_demands.proofs.Days.{paper, seen, sampled, on, first, cool, held, differ, no-byte, one-byte}
 use Rattle.laws_account.specs.Reported.{reportAt, fastAt, limitAt, currentAt, voltageAt}
 use Rattle.laws_demands.specs.Slips.{sameWrite, scalesPrecharge, timesAfter, judgesCool, coolFirst}
 
@@ -98,21 +101,21 @@ abbrev counted : Printed → ℕ
 counted p = getD (p .last) 0 0
 
 abbrev start : Past
-start = some (powered paper)
+start = some on
 
 pub second-refuted : SecondRefuted
-unfolding outcomeOf stepOf reportAt currentAt voltageAt refusesAlways reportsZeros ignoresEvents worksOnce inventsTimes inventsCounts sameWrite scalesPrecharge timesAfter judgesCool printedBy refusalOf nextOf firstOf stateOk movedOf phaseAt settingOf fastAt chargeVoltage limitAt shareOf fastCurrent reportOf logFrom linesBy wholeOf stateBy powerOnOf profileOk settingsOk registersOk cycleOk watchdogOk sampleOk setOf writeEventOf takeFlagsOf observeOf serviceOf resetEventOf phasesOf count chargeClamp bandAt baseAt inPack cellsOf profileOf chargeClampOf chargeVoltageOf inputLimitOf finishOf coolFirst settledOf testsOf lineBy pageOf startWalk settingsAt registersAt latchesAt cycleAt watchdogAt sampleOf flagsAt pulsed handedBack refusalIn poweredOf mayHold storeOf writeOf withFlags observedOf resetOf phaseBy pinFault startValue overridden byteOf packClamp baseOf cutOf settleOf edgesOf merged pulseOf timesOf unitsOf bandOf cycleOf phaseOf permittedOf suspendsOf belowRecharge taperOf endingOf flagsNumber walkOf inputOk inputOver short low packOver timeIn isDone unserved flagged edge expired wasTaken elapsed startOf heldOf shownOf rangeOf writtenTo countedOf expiredOf clearedIf startSettings restored permitted fault suspended wasDone rechargeDue chargeEnds tapering startVsysmin resetByte takenOf packClampOf forcedOf latchesOf seenOf expiresOf phaseChanges bandChanges reachesOf regulatedOf clearsOf endsOf judgedOf faultOf reachedOf belowShare recordAt since vbat sumAfter starts gave wasReset wasServed inputGood limitReached settingNumbers fieldsAt ranges recounted placed byteAt startVreg startIchg limitFound wasObserved ending shortOf lowOf packOverOf restartsOf readRecord restarts unitsOfHistory fields timeFound metBy lineOf readItems eventOf signedOf readNumber readGroups
+unfolding outcomeOf stepOf reportAt currentAt voltageAt refusesAlways reportsZeros ignoresEvents worksOnce inventsTimes inventsCounts sameWrite scalesPrecharge timesAfter judgesCool printedBy refusalOf nextOf firstOf stateOk movedOf phaseAt settingOf fastAt chargeVoltage limitAt shareOf fastCurrent reportOf logFrom linesBy wholeOf stateBy profileOk settingsOk registersOk cycleOk watchdogOk sampleOk setOf observeOf phasesOf count chargeClamp bandAt baseAt inPack cellsOf profileOf chargeClampOf chargeVoltageOf inputLimitOf finishOf coolFirst settledOf testsOf lineBy pageOf startWalk settingsAt registersAt latchesAt cycleAt watchdogAt sampleOf flagsAt pulsed handedBack refusalIn mayHold storeOf writeOf observedOf resetOf phaseBy pinFault startValue overridden byteOf packClamp baseOf cutOf settleOf edgesOf merged pulseOf timesOf unitsOf bandOf cycleOf phaseOf permittedOf suspendsOf belowRecharge taperOf endingOf flagsNumber walkOf inputOk inputOver short low packOver timeIn isDone unserved flagged edge expired wasTaken elapsed startOf heldOf shownOf rangeOf writtenTo countedOf expiredOf clearedIf startSettings restored permitted fault suspended wasDone rechargeDue chargeEnds tapering startVsysmin resetByte takenOf packClampOf forcedOf latchesOf seenOf regulatedOf clearsOf endsOf judgedOf faultOf reachedOf belowShare recordAt since vbat sumAfter starts gave wasReset wasServed inputGood limitReached settingNumbers fieldsAt ranges recounted placed byteAt startVreg startIchg limitFound wasObserved ending shortOf lowOf packOverOf restartsOf readRecord restarts unitsOfHistory fields timeFound metBy lineOf readItems eventOf signedOf readNumber readGroups turnedBy changeOf followedOf writtenOf turnOf profileInRange sampleInRange seenOn
 second-refuted = record {
   refuses = λ r report run read write d.
       let z : refusalNumber r ≡ 0 = ap (λ (o : Outcome). o .number) (d .moves none tt (PowerOn paper)) in
       absurd (omega (arith, some-number r));
-  zeros = λ step run read write d. differ 0 1500 refl (ap current (d .reports first (refl, refl)));
+  zeros = λ step run read write d. differ 0 1500 refl (ap current (d .reports first (refl, (refl, refl))));
   ignores = λ report run read write d. differ 0 1 refl (ap (of (λ s. 1)) (d .moves none tt (PowerOn paper)));
   once = λ report run read write d. differ 0 3 refl (ap (of (λ s. phaseNumber (s .phase))) (d .moves start refl (Observe sampled)));
   times = λ time report run read write d.
       let fast : Outcome → ℕ = of (λ s. s .cycle .fast) in
       let y : time ≡ 0 = ap fast (d .moves none tt (PowerOn paper)) in
-      let z : time ≡ 2000 = ap fast (d .moves (some first) (refl, refl) (Observe (seen 2000 7600 55000))) in
+      let z : time ≡ 2000 = ap fast (d .moves (some first) (refl, (refl, refl)) (Observe (seen 2000 7600 55000))) in
       absurd (omega arith);
   counts = λ count step report write d.
       let y : count ≡ 0 = ap counted (d .prints [] no-byte (omega arith)) in
@@ -120,7 +123,7 @@ second-refuted = record {
       absurd (omega arith);
   constant = constant-breaks;
   written = λ report run read write d. differ 3 2 refl (ap (of (λ s. s .registers .cells)) (d .moves start refl (Write 0x1B 0x43)));
-  scaled = λ step run read write d. differ 24 120 refl (ap current (d .reports cool (refl, refl)));
+  scaled = λ step run read write d. differ 24 120 refl (ap current (d .reports cool (refl, (refl, refl))));
   timed = λ report run read write d. differ 2000 0 refl (ap (of (λ s. s .cycle .fast)) (d .moves start refl (Observe sampled)));
   cooled = λ report run read write d.
       differ 3 1 refl (ap (of (λ s. bandNumber (s .band))) (d .moves start refl (Observe (seen 1000 7600 80000))));

@@ -1,13 +1,14 @@
 -- Wrong products break demand 3, at runs that charge and runs that don't by what is proved of this product's report.
 use Prim.Native.Nat.{ℕ, zero, suc, _<_}
 use mathlib.Core.Path.{_≡_, refl, sym, ap, subst, _∙_}
+use mathlib.Core.List.{[], _∷_}
 use native.Mathlib.Omega.{arith}
 use Rattle.base.specs.Units.{inPack, belowShare}
 use Rattle.state_parts.specs.declared.state.State.{State}
 use Rattle.state_parts.specs.declared.state.Model.{Model}
 use Rattle.state_parts.specs.declared.state.Model.the-variants.{Off, On}
 use Rattle.state_parts.specs.Edges.{merged, pulseOf}
-use Rattle.log_event.specs.declared.Event.the-variants.{Observe}
+use Rattle.log_event.specs.declared.Event.the-variants.{PowerOn, Observe}
 use Rattle.state_start.specs.Values.{startOf, startSettings, startVsysmin, startVreg, startIchg}
 use Rattle.state_settings.specs.Kept.{settingsOk}
 use Rattle.state_settings.specs.Numbered.{storeOf, heldOf, settingNumbers}
@@ -31,14 +32,17 @@ use Rattle.settle_phases.specs.Order.{phaseOf, clearsOf, endsOf, judgedOf, rest
 use Rattle.report_state.specs.Report.{reportOf, fastCurrent, inputLimitOf, chargeClampOf}
 use Rattle.settle_all.specs.Gather.{testsOf}
 use Rattle.settle_all.specs.Settle.{settleOf, forcedOf, settledOf}
-use Rattle.step_flags.specs.Edges.{edgesOf, seenOf, expiresOf, phaseChanges, bandChanges, reachesOf}
+use Rattle.step_flags.specs.Edges.{edgesOf, seenOf}
 use Rattle.step_flags.specs.Expiry.{expiredOf}
-use Rattle.step_kinds.specs.Finish.{finishOf, withFlags}
-use Rattle.step_kinds.specs.Plain.{powerOnOf, setOf, writeEventOf, takeFlagsOf, serviceOf, resetEventOf, poweredOf}
+use Rattle.step_kinds.specs.Finish.{finishOf}
+use Rattle.step_kinds.specs.Answers.{Outcome}
+use Rattle.step_kinds.specs.Plain.{setOf, writtenOf}
+use Rattle.step_turns.specs.Ranges.{profileInRange, sampleInRange}
+use Rattle.step_turns.specs.Turns.{heldProfile, turnOf}
 use Rattle.step_event.specs.Clock.{observedOf, countedOf, clearedIf, timesOf, unitsOf as unitsOfCharger}
-use Rattle.step_event.specs.Steps.{stepOf, firstOf, movedOf, observeOf}
-use Rattle.laws_account.specs.History.{Run, powered, count, since, sumAfter}
-use Rattle.laws_account.specs.Refused.{Accepted, refusalIn}
+use Rattle.step_event.specs.Steps.{stepOf, turnedBy, changeOf, firstOf, movedOf, followedOf, observeOf, seenOn}
+use Rattle.laws_account.specs.History.{Run, count, since, sumAfter}
+use Rattle.laws_account.specs.Refused.{Accepted, refusalIn, nextOf, pastOf}
 use Rattle.laws_account.specs.States.{stateOf, stateBy, settingsAt, registersAt, latchesAt, cycleAt, watchdogAt, flagsAt}
 use Rattle.laws_account.specs.Cycles.{phaseAt, phasesOf, timeIn, isDone, phaseBy, starts, gave, fault, wasDone, chargeEnds, restarts, unitsOf, limitFound, limitReached, timeFound}
 use Rattle.laws_account.specs.Flagged.{flagged, wasTaken, edge}
@@ -49,7 +53,7 @@ use Rattle.laws_demands.specs.Demand.{Charging, ThirdDemand, ranBy}
 use Rattle.laws_demands.proofs.Third.{third-of}
 use Rattle.laws_demands.specs.Refuted.{ThirdRefuted}
 use Rattle.laws_demands.specs.Wrong.{worksOnce, refusesAlways, ignoresEvents, reportsZeros, inventsTimes}
-use Rattle.laws_demands.proofs.Days.{paper, sampled, first, second, unlimited, held, differ}
+use Rattle.laws_demands.proofs.Days.{paper, sampled, on, first, firstEvents, second, secondEvents, unlimited, unlimitedEvents, held, differ}
 use Rattle.laws_demands.proofs.Invented.{stands}
 
 -- what this product reports after a run tells whether it charges
@@ -64,32 +68,32 @@ state s Off = s
 state s (On t) = t
 
 -- a product that works once is in one state at the power-on and after the sample
-stays : (s t : State) → ranBy worksOnce (powered paper) ≡ On s → ranBy worksOnce first ≡ On t → s ≡ t
+stays : (s t : State) → ranBy worksOnce Off (PowerOn paper ∷ []) ≡ On s → ranBy worksOnce Off firstEvents ≡ On t → s ≡ t
 unfolding ranBy worksOnce
 stays s t on next = ap (state s) (sym (ap (λ m. worksOnce m (Observe sampled) .model) on) ∙ next)
 
 pub third-refuted : ThirdRefuted
-unfolding reportOf refusalIn inventsTimes refusesAlways ignoresEvents reportsZeros ranBy fastCurrent chargeVoltageOf inputLimitOf stateBy phaseAt mayHold sampleOk elapsed stepOf chargeClampOf shareOf baseOf inPack cutOf profileOf settingsAt registersAt latchesAt cycleAt watchdogAt sampleOf bandAt flagsAt phasesOf count rangeOf firstOf stateOk movedOf packClampOf settingOf byteOf cellsOf overridden inputOk inputOver short low packOver timeIn isDone unserved flagged phaseBy ranges powerOnOf profileOk settingsOk registersOk cycleOk watchdogOk setOf writeEventOf takeFlagsOf observeOf serviceOf resetEventOf resetByte takenOf expired since vbat belowShare baseAt sumAfter starts gave wasReset wasServed wasTaken permitted fault suspended wasDone rechargeDue chargeEnds tapering poweredOf finishOf storeOf writeOf withFlags observedOf resetOf pinFault startValue fieldsAt packClamp restarts unitsOf edge inputGood limitFound wasObserved ending chargeVoltage settleOf startOf heldOf shownOf edgesOf merged pulseOf writtenTo countedOf expiredOf clearedIf timesOf unitsOfCharger startSettings restored startVsysmin fields regulatedOf limitReached timeFound forcedOf latchesOf bandOf settledOf testsOf settingNumbers seenOf expiresOf phaseChanges bandChanges reachesOf recounted placed byteAt startVreg startIchg faultOf shortOf lowOf packOverOf cycleOf phaseOf permittedOf suspendsOf belowRecharge taperOf endingOf reachedOf clearsOf endsOf judgedOf restartsOf
+unfolding reportOf refusalIn inventsTimes refusesAlways ignoresEvents reportsZeros ranBy fastCurrent chargeVoltageOf inputLimitOf stateBy phaseAt mayHold sampleOk elapsed stepOf chargeClampOf shareOf baseOf inPack cutOf profileOf settingsAt registersAt latchesAt cycleAt watchdogAt sampleOf bandAt flagsAt phasesOf count rangeOf firstOf stateOk movedOf packClampOf settingOf byteOf cellsOf overridden inputOk inputOver short low packOver timeIn isDone unserved flagged phaseBy ranges profileOk settingsOk registersOk cycleOk watchdogOk setOf observeOf resetByte takenOf expired since vbat belowShare baseAt sumAfter starts gave wasReset wasServed wasTaken permitted fault suspended wasDone rechargeDue chargeEnds tapering finishOf storeOf writeOf observedOf resetOf pinFault startValue fieldsAt packClamp restarts unitsOf edge inputGood limitFound wasObserved ending chargeVoltage settleOf startOf heldOf shownOf edgesOf merged pulseOf writtenTo countedOf expiredOf clearedIf timesOf unitsOfCharger startSettings restored startVsysmin fields regulatedOf limitReached timeFound forcedOf latchesOf bandOf settledOf testsOf settingNumbers seenOf recounted placed byteAt startVreg startIchg faultOf shortOf lowOf packOverOf cycleOf phaseOf permittedOf suspendsOf belowRecharge taperOf endingOf reachedOf clearsOf endsOf judgedOf restartsOf turnedBy changeOf followedOf writtenOf turnOf profileInRange sampleInRange seenOn pastOf nextOf
 third-refuted = record {
-  refuses = λ r report d. differ 0 1 refl (ap (held (λ s. 1)) (d (powered paper) refl .1));
-  zeros = λ step d. let some = d first (refl, refl) .2 .charges .1 (charges first (refl, refl) (omega arith)) in absurd (omega arith);
-  ignores = λ report d. differ 0 1 refl (ap (held (λ s. 1)) (d (powered paper) refl .1));
+  refuses = λ r report d. differ 0 1 refl (ap (held (λ s. 1)) (d (PowerOn paper ∷ []) on refl .1));
+  zeros = λ step d. let some = d firstEvents first refl .2 .charges .1 (charges first (refl, (refl, refl)) (omega arith)) in absurd (omega arith);
+  ignores = λ report d. differ 0 1 refl (ap (held (λ s. 1)) (d (PowerOn paper ∷ []) on refl .1));
   once = λ report d.
-      let a = d (powered paper) refl in
-      let b = d first (refl, refl) in
+      let a = d (PowerOn paper ∷ []) on refl in
+      let b = d firstEvents first refl in
       let same = stays (a .0) (b .0) (a .1) (b .1) in
-      let some = b .2 .charges .1 (charges first (refl, refl) (omega arith)) in
-      rests (powered paper) refl refl (a .2 .charges .0 (subst (λ (s : State). 0 < report s .current) (sym same) some));
+      let some = b .2 .charges .1 (charges first (refl, (refl, refl)) (omega arith)) in
+      rests on refl refl (a .2 .charges .0 (subst (λ (s : State). 0 < report s .current) (sym same) some));
   times = made;
 }
   where
     made : (time : ℕ) → ¬ ThirdDemand (inventsTimes time) reportOf
     made zero d =
-        let b = d second (((refl, refl), refl), refl) in
+        let b = d secondEvents second refl in
         let told : 1500 ≡ reportOf (b .0) .current = ap (held (λ s. reportOf s .current)) (b .1) in
-        rests second (((refl, refl), refl), refl) refl (b .2 .charges .0 (omega arith))
+        rests second (((refl, (refl, refl)), (refl, refl)), (refl, refl)) refl (b .2 .charges .0 (omega arith))
     made (suc t) d =
-        let b = d unlimited (refl, refl) in
+        let b = d unlimitedEvents unlimited refl in
         let told : 0 ≡ reportOf (b .0) .current = ap (held (λ s. reportOf s .current)) (sym (stands t) ∙ b .1) in
-        let some = b .2 .charges .1 (charges unlimited (refl, refl) (omega arith)) in
+        let some = b .2 .charges .1 (charges unlimited (refl, (refl, refl)) (omega arith)) in
         absurd (omega arith)

@@ -4,24 +4,24 @@ use native.Mathlib.Omega.{arith}
 use mathlib.Core.Path.{_≡_, refl, sym, ap, _∙_, subst}
 use mathlib.Core.Logic.{inr}
 use mathlib.Core.Bool.{Bool, true, false}
+use mathlib.Core.List.{List, [], _∷_}
 use Rattle.base.specs.Pick.{pick}
 use Rattle.state_parts.specs.Pins.{ichgOf}
-use Rattle.state_parts.specs.declared.profile.Profile.{Profile}
 use Rattle.settle_phases.specs.Order.{charging}
 use Rattle.report_state.specs.Report.{currentIn, reportOf}
 use Rattle.step_event.specs.Steps.{stepOf}
-use Rattle.laws_account.specs.History.{Run, powered, _▸_}
-use Rattle.step_turns.specs.declared.later.Later.{Later}
+use Rattle.laws_account.specs.History.{Run}
+use Rattle.log_event.specs.declared.Event.{Event}
 use Rattle.laws_account.specs.Held.{profileOf, ichg, overridden}
 use Rattle.laws_account.specs.Valued.{settingOf}
 use Rattle.laws_account.specs.Judged.{chargeClamp, bandAt, shareIn, short, low, tapering}
 use Rattle.laws_account.specs.Cycles.{phaseAt}
-use Rattle.laws_account.specs.Refused.{Accepted}
+use Rattle.laws_account.specs.Refused.{Accepted, Past, none, nextOf, pastOf}
 use Rattle.laws_account.specs.States.{stateOf, modelOf}
-use Rattle.laws_account.specs.Runs.{runOf, Lawful}
+use Rattle.laws_account.specs.Runs.{Lawful}
 use Rattle.laws_account.proofs.Past.{phase-keeps-rule}
-use Rattle.laws_account.proofs.Agreeing.{account-is-model}
-use Rattle.laws_account.proofs.Logging.{every-log}
+use Rattle.laws_account.proofs.Agreeing.{keeps-lawful, next-model}
+use Rattle.laws_account.proofs.Logging.{past-lawful, every-log}
 use Rattle.laws_demands.specs.Crossed.{Short, Low}
 use Rattle.laws_demands.specs.Demand.{Charging, Bounded, Third, ranBy, ThirdDemand, ThirdOfLogs}
 use Rattle.laws_demands.proofs.Crossings.{short-means, low-means}
@@ -109,21 +109,23 @@ module _ (r : Run) where
         zero = λ n. volts-are r false (not-true (charging (phaseAt r)) (λ t. n (charging-means r .fact t)));
       }
 
-ran-first : (p : Profile) → ranBy stepOf (powered p) ≡ runOf (powered p)
-unfolding ranBy runOf
-ran-first p = refl
+-- the model after a list of events is the account's of what it leaves
+ran-none : (h : Past) → ranBy stepOf (modelOf h) [] ≡ modelOf (pastOf h [])
+unfolding ranBy pastOf
+ran-none h = refl
 
-ran-next : (r : Run) (e : Later) → ranBy stepOf r ≡ runOf r → ranBy stepOf (r ▸ e) ≡ runOf (r ▸ e)
-unfolding ranBy runOf
-ran-next r e h = ap (λ m. stepOf m (asEvent e) .model) h
+ran-more : (h : Past) → Lawful h → (e : Event) (es : List Event) → ranBy stepOf (modelOf (nextOf h e)) es ≡ modelOf (pastOf (nextOf h e) es)
+    → ranBy stepOf (modelOf h) (e ∷ es) ≡ modelOf (pastOf h (e ∷ es))
+unfolding ranBy pastOf
+ran-more h l e es more = ap (λ m. ranBy stepOf m es) (next-model h l e) ∙ more
 
-ran-is : (r : Run) → ranBy stepOf r ≡ runOf r
-ran-is (powered p) = ran-first p
-ran-is (r ▸ e) = ran-next r e (ran-is r)
+ran-is : (es : List Event) (h : Past) → Lawful h → ranBy stepOf (modelOf h) es ≡ modelOf (pastOf h es)
+ran-is [] h l = ran-none h
+ran-is (e ∷ es) h l = ran-more h l e es (ran-is es (nextOf h e) (keeps-lawful h l e))
 
 -- of the step and the report
 pub third-demand : ThirdDemand stepOf reportOf
-third-demand r h = (stateOf r, ran-is r ∙ account-is-model r h, third-of r h)
+third-demand es r h = (stateOf r, ran-is es none tt ∙ ap modelOf h, third-of r (subst Lawful h (past-lawful es none tt)))
 
 -- and of every log
 pub third-of-logs : ThirdOfLogs

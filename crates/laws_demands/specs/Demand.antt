@@ -3,7 +3,7 @@ use Prim.Native.Nat.{ℕ, _*_, _/_, _-_, _≤_, _<_, min}
 use mathlib.Core.Path.{_≡_}
 use mathlib.Core.Logic.{_↔_, _⊎_}
 use mathlib.Core.Bool.{true, false}
-use mathlib.Core.List.{List}
+use mathlib.Core.List.{List, [], _∷_}
 use Rattle.base.specs.Units.{inPack}
 use Rattle.base.specs.Volts.{millivoltsOf}
 use Rattle.state_parts.specs.Pins.{ichgOf}
@@ -14,17 +14,16 @@ use Rattle.state_parts.specs.declared.state.Model.{Model}
 use Rattle.state_parts.specs.declared.state.Model.the-variants.{Off, On}
 use Rattle.settle_permission.specs.Bits.{ceHigh, hizHigh, shutdownOf}
 use Rattle.log_event.specs.declared.Event.{Event}
-use Rattle.log_event.specs.declared.Event.the-variants.{PowerOn}
 use Rattle.report_state.specs.declared.answer.Report.{Report}
 use Rattle.report_state.specs.Report.{reportOf}
-use Rattle.step_kinds.specs.Plain.{Outcome}
+use Rattle.step_kinds.specs.Answers.{Outcome}
 use Rattle.step_event.specs.Pages.{wholeOf}
-use Rattle.laws_account.specs.History.{Run, powered, _▸_}
+use Rattle.laws_account.specs.History.{Run}
 use Rattle.laws_account.specs.Held.{profileOf, sampleOf, ichg, overridden, cellsOf}
 use Rattle.laws_account.specs.Valued.{settingOf}
 use Rattle.laws_account.specs.Judged.{packClamp, chargeClamp, isetc, vset, bandAt, shareIn, cutIn}
 use Rattle.laws_account.specs.Cycles.{Stage}
-use Rattle.laws_account.specs.Refused.{Accepted, some}
+use Rattle.laws_account.specs.Refused.{none, some, pastOf}
 use Rattle.laws_account.specs.Runs.{logged}
 use Rattle.laws_demands.specs.Crossed.{InputGood, PinFault, Short, Low, PackOver}
 use Rattle.laws_demands.specs.Stages.{Reached, Done}
@@ -100,14 +99,15 @@ pub record Third (r : Run) (q : Report) : Type 0 where
   pub voltage : Charging r → millivoltsOf (q .voltage) ≡ min (settingOf 1 r) (clamp r) - cut r
   pub zero : ¬ Charging r → millivoltsOf (q .voltage) ≡ 0
 
--- the model that a step leads to from before the power-on through a run
-unfoldable pub ranBy : (Model → Event → Outcome) → Run → Model
-ranBy step (powered p) = step Off (PowerOn p) .model
-ranBy step (r ▸ e) = step (ranBy step r) (asEvent e) .model
+-- the model that a step leads to through a list of events, refused ones and later power-ons included
+unfoldable pub ranBy : (Model → Event → Outcome) → Model → List Event → Model
+ranBy step m [] = m
+ranBy step m (e ∷ es) = ranBy step (step m e .model) es
 
--- demand 3, of a step and of what is reported of a state: after every run of accepted events the model is on, and its report is as the run tells
+-- demand 3, of a step and of what is reported of a state: whatever list of events comes, from before any power-on, once one was accepted the model is on, and its report is as the
+-- accepted events since the latest power-on tell
 abbrev pub ThirdDemand : (Model → Event → Outcome) → (State → Report) → Type 0
-ThirdDemand step report = (r : Run) → Accepted r → (s : State) × (ranBy step r ≡ On s) × Third r (report s)
+ThirdDemand step report = (es : List Event) (r : Run) → pastOf none es ≡ some r → (s : State) × (ranBy step Off es ≡ On s) × Third r (report s)
 
 -- and of every log: what is reported after it is as the accepted events since its latest accepted power-on tell
 abbrev pub ThirdOfLogs : Type 0

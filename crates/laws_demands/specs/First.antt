@@ -10,7 +10,7 @@ use Rattle.log_number.specs.Promises.{Bytes}
 use Rattle.log_event.specs.declared.Event.{Event}
 use Rattle.log_record.specs.Records.{Met}
 use Rattle.log_record.specs.Records as log
-use Rattle.step_kinds.specs.Plain.{Outcome}
+use Rattle.step_kinds.specs.Answers.{Outcome}
 use Rattle.step_event.specs.Theorems.{Untouched}
 use Rattle.laws_step.specs.Rows.{Among}
 

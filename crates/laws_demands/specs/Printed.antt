@@ -16,7 +16,7 @@ use Rattle.log_event.specs.Events.{kindOf}
 use Rattle.log_event.specs.Kinds.{kindByte}
 use Rattle.log_event.specs.declared.Event.{Event}
 use Rattle.log_record.specs.Records.{Met, met, refused, end}
-use Rattle.step_kinds.specs.Plain.{Outcome}
+use Rattle.step_kinds.specs.Answers.{Outcome}
 use Rattle.report_state.specs.declared.answer.Report.{Report}
 use Rattle.report_state.specs.declared.line.Line.{Line}
 use Rattle.laws_demands.specs.First.{Step, Reader}

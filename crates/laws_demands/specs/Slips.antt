@@ -4,6 +4,7 @@ use mathlib.Core.Bool.{Bool, true, false, _&&_}
 use lib.Dec.{leb, eqb}
 use Rattle.base.specs.Pick.{pick}
 use Rattle.base.specs.Stamps.{elapsedOf}
+use Rattle.state_parts.specs.With.{withRegisters, withCycle}
 use Rattle.state_parts.specs.declared.band.Band.{Band}
 use Rattle.state_parts.specs.declared.band.Band.the-variants.{Normal, Cool}
 use Rattle.state_parts.specs.declared.registers.Registers.{Registers}
@@ -18,13 +19,16 @@ use Rattle.settle_bands.specs.Effect.{shareOf}
 use Rattle.settle_all.specs.Gather.{testsOf}
 use Rattle.settle_all.specs.Settle.{settledOf, settleOf}
 use Rattle.report_state.specs.Report.{currentIn, fastCurrent, reportOf}
+use Rattle.step_turns.specs.Turns.{heldSample}
+use Rattle.step_flags.specs.Edges.{seenOf}
+use Rattle.step_kinds.specs.Answers.{Outcome}
 use Rattle.step_kinds.specs.Finish.{finishOf}
-use Rattle.step_kinds.specs.Plain.{Outcome, acceptedAs}
+use Rattle.step_kinds.specs.declared.change.Way.the-variants.{Observes}
 use Rattle.step_event.specs.Clock.{unitsOf, timesOf, observedOf}
 use Rattle.step_event.specs.Steps.{stepOf}
 use Rattle.laws_demands.specs.First.{Step}
 use Rattle.laws_demands.specs.Printed.{Reporter}
-use Rattle.laws_demands.specs.Wrong.{withModel, withCycle}
+use Rattle.laws_demands.specs.Wrong.{withModel}
 
 -- "Using a CELL_PIN override from the same write": it is as the written byte has it before the byte is taken
 abbrev pub withOverride : Bool → Registers → Registers
@@ -39,20 +43,6 @@ withOverride stands g = record {
   vchgoverride = g .vchgoverride;
   celloverride = stands;
   ichgoverride = g .ichgoverride;
-}
-
-abbrev pub withRegisters : State → Registers → State
-withRegisters s g = record {
-  profile = s .profile;
-  settings = s .settings;
-  registers = g;
-  latches = s .latches;
-  cycle = s .cycle;
-  watchdog = s .watchdog;
-  sample = s .sample;
-  phase = s .phase;
-  band = s .band;
-  flags = s .flags;
 }
 
 abbrev pub asWritten : Event → State → State
@@ -88,7 +78,7 @@ timedBy s (PowerOn p) o = o
 timedBy s (Set number value) o = o
 timedBy s (Write address byte) o = o
 timedBy s TakeFlags o = o
-timedBy s (Observe x) o = pick (eqb (o .number) 0) (acceptedAs (finishOf s (chargedAfter s x) true)) o
+timedBy s (Observe x) o = pick (eqb (o .number) 0) (finishOf (seenOf s) (chargedAfter s (heldSample x)) Observes) o
 timedBy s Service o = o
 timedBy s Reset o = o
 

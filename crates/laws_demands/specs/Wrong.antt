@@ -8,13 +8,13 @@ use Rattle.base.specs.Refusals.{refusalNumber}
 use Rattle.base.specs.Volts.{packOf}
 use Rattle.base.specs.Writing.{put, written}
 use Rattle.base.specs.declared.refusal.Refusal.{Refusal}
-use Rattle.state_parts.specs.declared.cycle.Cycle.{Cycle}
+use Rattle.state_parts.specs.With.{withCycle}
 use Rattle.state_parts.specs.declared.phase.Phase.the-variants.{Idle}
 use Rattle.state_parts.specs.declared.state.State.{State}
 use Rattle.state_parts.specs.declared.state.Model.{Model}
 use Rattle.state_parts.specs.declared.state.Model.the-variants.{Off, On}
 use Rattle.log_record.specs.Records.{spellEvent, end}
-use Rattle.step_kinds.specs.Plain.{Outcome, refusedWith}
+use Rattle.step_kinds.specs.Answers.{Outcome, refusedWith}
 use Rattle.step_event.specs.Steps.{stepOf}
 use Rattle.laws_demands.specs.First.{Step, Reader, Writer}
 use Rattle.laws_demands.specs.Printed.{Reporter}
@@ -53,20 +53,6 @@ ignoresEvents m e = withModel (stepOf m e) m
 unfoldable pub worksOnce : Step
 worksOnce Off e = stepOf Off e
 worksOnce (On s) e = withModel (stepOf (On s) e) (On s)
-
-abbrev pub withCycle : State → Cycle → State
-withCycle s c = record {
-  profile = s .profile;
-  settings = s .settings;
-  registers = s .registers;
-  latches = s .latches;
-  cycle = c;
-  watchdog = s .watchdog;
-  sample = s .sample;
-  phase = s .phase;
-  band = s .band;
-  flags = s .flags;
-}
 
 -- "invented stage times": the fast stage's is whatever number
 abbrev pub withTime : ℕ → Model → Model
