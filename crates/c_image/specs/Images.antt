@@ -19,10 +19,14 @@ abbrev pub zeros : ℕ → List ℕ
 zeros zero = []
 zeros (suc k) = 0 ∷ zeros k
 
--- "54 words. Word 0 is 0 before a power-on (then all other words are 0) or 1. The state's numbers follow".
+-- "CHEUKDANE_FORMAT": the number of this list of numbers; a landing that changes the list gives it another. It is never 0.
+abbrev pub imageFormat : ℕ
+imageFormat = 1
+
+-- "54 words. Word 0 is 0 before a power-on, and then all other words are 0 too; after it, it is the format's number, CHEUKDANE_FORMAT, and the state's numbers follow".
 abbrev pub modelNumbers : Model → List ℕ
 modelNumbers Off = 0 ∷ zeros 53
-modelNumbers (On s) = 1 ∷ stateNumbers s
+modelNumbers (On s) = imageFormat ∷ stateNumbers s
 
 unfoldable pub imageOf : Model → List ℕ
 imageOf m = bytesOf (modelNumbers m)
