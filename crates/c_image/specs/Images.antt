@@ -35,7 +35,7 @@ imageOf m = bytesOf (modelNumbers m)
 unfoldable pub modelFrom : List ℕ → Model
 modelFrom bytes = pick (eqb (wordAt bytes 0) 0) Off (On (stateFrom (wordsIn 53 (drop 4 bytes))))
 
--- "bytes that aren't an image, or are of another length .., are 5": bytes are an image where they are just that model's
+-- "bytes that aren't an image, or are of another length .., are 5": bytes are an image if and only if they are the image of the model that they would be
 unfoldable pub modelIn : List ℕ → Told Model
 modelIn bytes = pick (sameBytes (imageOf (modelFrom bytes)) bytes) (accepted (modelFrom bytes)) (refused 5)
 
