@@ -18,8 +18,11 @@ use Rattle.c_list.specs.Numbers.{stateNumbers}
 use Rattle.c_list.proofs.Lengths.{state-long}
 use Rattle.c_list.proofs.Again.{made-again}
 use Rattle.c_image.specs.Images.{zeros, imageFormat, modelNumbers, imageOf, modelFrom, modelIn}
-use Rattle.c_image.specs.Promises.{Storable, LoadsBack, OneImage, ImageLong, ImagesDiffer, OffIsZeros, OtherFormat, OneAnswer}
+use Rattle.c_image.specs.Promises.{Storable, LoadsBack, OneImage, ImageLong, ImagesDiffer, FormatNotZero, OffIsZeros, OtherFormat, OneAnswer}
 use Rattle.c_image.specs.declared.Loaded.the-variants.{Held, NoImage}
+
+pub format-not-zero : FormatNotZero
+format-not-zero e = omega arith
 
 numbers-long : (m : Model) → length (modelNumbers m) ≡ 54
 numbers-long Off = refl

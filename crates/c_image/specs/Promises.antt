@@ -35,6 +35,10 @@ ImageLong = (m : Model) → length (imageOf m) ≡ 216
 abbrev pub ImagesDiffer : Type 0
 ImagesDiffer = (m n : Model) → Storable m → Storable n → imageOf m ≡ imageOf n → m ≡ n
 
+-- "It is never 0": the first word tells a model that is on from one that is off
+abbrev pub FormatNotZero : Type 0
+FormatNotZero = imageFormat ≢ 0
+
 -- "zeroed bytes are the image of a model that is off", in every format
 abbrev pub OffIsZeros : Type 0
 OffIsZeros = imageOf Off ≡ zeros 216
