@@ -1,18 +1,24 @@
 # Two commands do everything: `make run` runs the paper's example log, `make test` proves and tests all of it.
-.PHONY: run runlog partlog test bench install
+.PHONY: run runlog partlog test bench install docs-check
 
 PREFIX ?= /usr/local
 
 # The programs, proved and linked: target/bin/runlog, target/bin/partlog.
 runlog partlog:
+	@scripts/need rt
 	@rt check $@
 
-# Proves runlog, runs it on the paper's example, crates/runlog/stdin, and shows what it printed; that must be crates/runlog/stdout.
+# Proves runlog, runs it on the paper's example, crates/runlog/stdin, and shows what it printed; that must be
+# crates/runlog/stdout.
 run: runlog
 	@cat target/log/runlog.stdout
 
 test:
 	@scripts/test
+
+# The docs against the crates: names, the picture, the width of lines. A second; part of `make test`.
+docs-check:
+	@scripts/docs-check
 
 # The library and runlog against the Rust implementation: events a second, instructions, stack.
 bench:

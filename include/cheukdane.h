@@ -1,14 +1,26 @@
 /* Cheukdane: the one model of a pack's BQ25690 charger, for a head's firmware.
  *
- * Link libcheukdane.a. No call keeps anything between calls, allocates, or reads a clock: a head holds the model as an image, a plain array of bytes of its own, and
- * lends it to each call. Every call answers on every input and asks nothing of its caller but that each pointer points to as many bytes as the length beside it says (an
- * empty part may be NULL, 0) and that bytes which a call may change are lent to it once.
+ * What to link: libcheukdane.a, for x86-64 Linux; of the C library it needs memcpy alone.
+ * No call allocates, reads a clock, takes a lock, sets errno or calls back.
  *
- * Words are 32-bit numbers, lowest byte first. A size_t has 64 bits. `log_number` is 0, or the refusal's number of the paper's table; `place` is the refusal's place: the
- * record's start in a log, 0 outside one. A refusal leaves every lent byte as it was.
+ * A head holds the model as an image, a plain array of bytes of its own, and lends it to each call. No call keeps
+ * anything between calls. So every call is reentrant: threads and signal handlers may call at the same time, if no part
+ * that one of the calls may change is lent to another of them meanwhile.
  *
- * In every call that is lent an image, bytes that aren't an image, or are of another length than CHEUKDANE_IMAGE, are 5 before all else; then an answer buffer that is
- * too short is 12; then what the call is about is judged. Of an answer buffer the first words are written and the bytes after them stay.
+ * Every call answers on every input. It asks only that each pointer points to as many bytes as the length beside it
+ * says (an empty part may be NULL, 0) and that bytes which a call may change are lent to it once.
+ *
+ * Words are 32-bit numbers, lowest byte first. A size_t has 64 bits, which is tested below. `number` is 0, or the
+ * refusal's number of the paper's table; `place` is the refusal's place: the record's start in a log, 0 outside one. A
+ * refusal leaves every lent byte as it was.
+ *
+ * In every call that is lent an image, bytes that aren't an image, or are of another length than CHEUKDANE_IMAGE, are 5
+ * before all else; then an answer buffer that is too short is 12; then what the call is about is judged. Of an answer
+ * buffer the first words are written and the bytes after them stay.
+ *
+ * Stack, in bytes along the deepest chain of calls, of the module's object code for aarch64 (`make bench` prints them
+ * for the machine at hand): replay 3,808, play 3,424, event 3,328, report 1,264, register 1,024, compare 464, write
+ * 176, off and rules none. No call calls itself.
  */
 #ifndef CHEUKDANE_H
 #define CHEUKDANE_H
@@ -20,9 +32,30 @@
 extern "C" {
 #endif
 
-/* Bytes of an image: 54 words. Word 0 is 0 before a power-on (then all other words are 0) or 1. The state's numbers follow, from these words on; a yes or no is 1 or 0. Every
- * model has one image, and bytes are an image just where they are a model's: a yes or no above 1, a byte above 255, or a phase, band or flags that aren't, make them none. A
- * number outside what the model may hold makes an image all the same: an event on it is 5. */
+/* Does not compile if a size_t has another width than the library's. */
+typedef char cheukdane_size_t_has_64_bits[sizeof(size_t) == 8 ? 1 : -1];
+
+/* The number of the rules: what a log means. Every landing that changes the state, the report or the answer that a log
+ * leads to moves it. Two heads compare cheukdane_rules() before they trust each other: with one log and other rules
+ * they would part. This is the number at the time of compiling; cheukdane_rules() is that of the archive linked. */
+#define CHEUKDANE_RULES 1
+
+/* ---- Images ---- */
+
+/* The format of an image: every landing that changes the list of numbers below moves it. It is never 0. */
+#define CHEUKDANE_FORMAT 1
+
+/* Bytes of an image: 54 words. Word 0 is 0 before a power-on, and then all other words are 0 too; after it, it is the
+ * format's number, CHEUKDANE_FORMAT, and the state's numbers follow, from these words on; a yes or no is 1 or 0. So
+ * zeroed bytes are the image of a model that is off, in every format. Every model has exactly one image, and bytes are
+ * an image only if they are a model's: another format, a yes or no above 1, a byte above 255, or a phase, band or flags
+ * that aren't, make them none. A number outside what the model may hold makes an image all the same: an event on it is
+ * 5.
+ *
+ * An image may be stored and lent again later, also by a head of another make: it has no padding and no pointer. It has
+ * no checksum: bytes that were changed in storage load if they are some model's image, so whoever stores an image keeps
+ * a checksum beside it. An image of another format is 5: such a head starts from zeroed bytes and replays the log. An
+ * image doesn't say by which rules it was made: store cheukdane_rules() beside it too. */
 #define CHEUKDANE_IMAGE 216
 #define CHEUKDANE_PROFILE 1    /* a power-on's ten numbers, in the log's order */
 #define CHEUKDANE_SETTINGS 11  /* settings 1 to 14 */
@@ -35,15 +68,167 @@ extern "C" {
 #define CHEUKDANE_BAND 52      /* 0 normal, 1 cold, 2 hot, 3 cool, 4 warm */
 #define CHEUKDANE_FLAGS 53     /* the held flags, bits 0 to 11 */
 
-/* Bytes of what an accepted event shows: phase, current, voltage, input limit, pulse, held flags, and the flags that the event handed back (kind 4). */
+/* ---- Names for the paper's numbers ---- */
+
+/* Kinds of events. */
+enum {
+    CHEUKDANE_KIND_POWER_ON = 1,   /* cell, vchg, ichg codes; ILIM ohms; stamp; cell ceiling; trickle, precharge and
+                                      fast limits and watchdog period in seconds */
+    CHEUKDANE_KIND_SET = 2,        /* setting number, value */
+    CHEUKDANE_KIND_WRITE = 3,      /* register address, byte */
+    CHEUKDANE_KIND_TAKE_FLAGS = 4, /* no numbers; hands back the held flags and clears them */
+    CHEUKDANE_KIND_OBSERVE = 5,    /* stamp; VIN, VBAT in mV; IBAT as CHEUKDANE_IBAT gives it; TS; sample bits */
+    CHEUKDANE_KIND_SERVICE = 6,    /* no numbers; services the watchdog */
+    CHEUKDANE_KIND_RESET = 7       /* no numbers; resets the registers */
+};
+
+/* Answers: a call's `number`, and `code` of a replay. */
+enum {
+    CHEUKDANE_ACCEPTED = 0,
+    CHEUKDANE_REFUSED_ENDS_INSIDE = 1,      /* the log ends inside a record */
+    CHEUKDANE_REFUSED_ZERO_GROUP = 2,       /* a number's last group is zero and not the only one */
+    CHEUKDANE_REFUSED_TOO_LARGE = 3,        /* a number above 4,294,967,295 */
+    CHEUKDANE_REFUSED_UNKNOWN_KIND = 4,     /* no kind has that byte */
+    CHEUKDANE_REFUSED_OUT_OF_RANGE = 5,     /* outside the kind's ranges; or the model doesn't pass; or no image */
+    CHEUKDANE_REFUSED_NOT_POWERED = 6,      /* there was no power-on yet */
+    CHEUKDANE_REFUSED_STAMP_AHEAD = 7,      /* the stamp is more than 3,600,000 ms ahead */
+    CHEUKDANE_REFUSED_UNKNOWN_SETTING = 8,  /* no setting has that number */
+    CHEUKDANE_REFUSED_BAD_VALUE = 9,        /* outside the setting's range or off its step */
+    CHEUKDANE_REFUSED_UNKNOWN_ADDRESS = 10, /* no register has that address */
+    CHEUKDANE_REFUSED_BAD_FREQUENCY = 11,   /* FSW written 0 or 7 */
+    CHEUKDANE_REFUSED_NO_ROOM = 12,         /* what is to be written is longer than the room */
+    CHEUKDANE_REFUSED_INPUT_TOO_LONG = 13,  /* of runlog and partlog alone: an input above 65,536 bytes */
+    CHEUKDANE_REFUSED_LOGS_PART = 14        /* two logs part */
+};
+
+/* Phases. In 1 to 4 current and voltage are reported, in the others they are 0. */
+enum {
+    CHEUKDANE_PHASE_IDLE = 0,
+    CHEUKDANE_PHASE_TRICKLE = 1,
+    CHEUKDANE_PHASE_PRECHARGE = 2,
+    CHEUKDANE_PHASE_FAST = 3,
+    CHEUKDANE_PHASE_TAPER = 4,
+    CHEUKDANE_PHASE_DONE = 5,
+    CHEUKDANE_PHASE_SUSPENDED = 6,
+    CHEUKDANE_PHASE_FAULT = 7
+};
+
+/* Bands of the battery's temperature. */
+enum {
+    CHEUKDANE_BAND_NORMAL = 0,
+    CHEUKDANE_BAND_COLD = 1,
+    CHEUKDANE_BAND_HOT = 2,
+    CHEUKDANE_BAND_COOL = 3,
+    CHEUKDANE_BAND_WARM = 4
+};
+
+/* STAT. */
+enum {
+    CHEUKDANE_STAT_LOW = 0,
+    CHEUKDANE_STAT_BLINKING = 1,
+    CHEUKDANE_STAT_HIGH = 2
+};
+
+/* Bits of the flags, and of setting 14, which masks their pulses. */
+enum {
+    CHEUKDANE_FLAG_INPUT_GOOD = 1,
+    CHEUKDANE_FLAG_INPUT_LOST = 2,
+    CHEUKDANE_FLAG_IINDPM = 4,
+    CHEUKDANE_FLAG_VINDPM = 8,
+    CHEUKDANE_FLAG_THERMAL_REGULATION = 16,
+    CHEUKDANE_FLAG_WATCHDOG = 32, /* expired; also set by a power-on */
+    CHEUKDANE_FLAG_PHASE = 64,
+    CHEUKDANE_FLAG_BAND = 128,
+    CHEUKDANE_FLAG_VIN_OVER = 256,
+    CHEUKDANE_FLAG_THERMAL_SHUTDOWN = 512,
+    CHEUKDANE_FLAG_BATTERY_OVER = 1024,
+    CHEUKDANE_FLAG_LIMIT = 2048   /* a first stage limit was reached */
+};
+
+/* Settings, by number. That of an image is its word CHEUKDANE_SETTINGS + number - 1. */
+enum {
+    CHEUKDANE_SETTING_VREG = 1,      /* mV */
+    CHEUKDANE_SETTING_ICHG = 2,      /* mA */
+    CHEUKDANE_SETTING_IPRECHG = 3,   /* mA */
+    CHEUKDANE_SETTING_ITERM = 4,     /* mA */
+    CHEUKDANE_SETTING_IINDPM = 5,    /* mA */
+    CHEUKDANE_SETTING_VSYSMIN = 6,   /* mV */
+    CHEUKDANE_SETTING_VBAT_LOWV = 7, /* 0-3: 30, 55, 66.7, 71.4% of the base voltage */
+    CHEUKDANE_SETTING_VRECHG = 8,    /* 0-3: 92.7, 94.1, 95.5, 97% of the base voltage */
+    CHEUKDANE_SETTING_EN_CHG = 9,
+    CHEUKDANE_SETTING_EN_TERM = 10,
+    CHEUKDANE_SETTING_EN_HIZ = 11,
+    CHEUKDANE_SETTING_EN_EXTILIM = 12,
+    CHEUKDANE_SETTING_DIS_STAT_PIN = 13,
+    CHEUKDANE_SETTING_MASKS = 14     /* flag bits that give no pulse */
+};
+
+/* Bits of a sample, the last number of an observation. */
+enum {
+    CHEUKDANE_BIT_CE_HIGH = 1,
+    CHEUKDANE_BIT_ILIM_HIZ_HIGH = 2,
+    CHEUKDANE_BIT_IINDPM = 4,
+    CHEUKDANE_BIT_VINDPM = 8,
+    CHEUKDANE_BIT_THERMAL_REGULATION = 16,
+    CHEUKDANE_BIT_THERMAL_SHUTDOWN = 32
+};
+
+/* ---- Answer buffers ---- */
+
+/* Bytes of what an accepted event shows: phase, current, voltage, input limit, pulse, held flags, and the flags that
+ * the event handed back (kind 4). */
 #define CHEUKDANE_SHOWN 28
+
+/* The words of what is shown. */
+enum {
+    CHEUKDANE_SHOWN_PHASE = 0,
+    CHEUKDANE_SHOWN_CURRENT = 1, /* mA */
+    CHEUKDANE_SHOWN_VOLTAGE = 2, /* mV */
+    CHEUKDANE_SHOWN_LIMIT = 3,   /* mA */
+    CHEUKDANE_SHOWN_PULSE = 4,   /* 1 if the event had an unmasked flag */
+    CHEUKDANE_SHOWN_FLAGS = 5,
+    CHEUKDANE_SHOWN_HANDED = 6
+};
+
 /* Bytes of a report: phase, current, voltage, input limit, held flags, and STAT (0 low, 1 blinking, 2 high). */
 #define CHEUKDANE_REPORT 24
-/* The longest record. */
+
+/* The words of a report. */
+enum {
+    CHEUKDANE_REPORT_PHASE = 0,
+    CHEUKDANE_REPORT_CURRENT = 1, /* mA */
+    CHEUKDANE_REPORT_VOLTAGE = 2, /* mV */
+    CHEUKDANE_REPORT_LIMIT = 3,   /* mA */
+    CHEUKDANE_REPORT_FLAGS = 4,
+    CHEUKDANE_REPORT_STAT = 5
+};
+
+/* Bytes of the longest record. */
 #define CHEUKDANE_RECORD 51
 
-/* IBAT, in mA, as an event's number. */
-#define CHEUKDANE_IBAT(ma) ((uint32_t)((ma) < 0 ? -2 * (int64_t)(ma) - 1 : 2 * (int64_t)(ma)))
+/* The word at an index of an image, of what is shown or of a report. */
+static inline uint32_t cheukdane_word(const uint8_t *bytes, size_t index) {
+    const uint8_t *at = bytes + 4 * index;
+    return (uint32_t)at[0] | (uint32_t)at[1] << 8 | (uint32_t)at[2] << 16 | (uint32_t)at[3] << 24;
+}
+
+/* Stores a word at an index of an event's words. */
+static inline void cheukdane_put_word(uint8_t *bytes, size_t index, uint32_t number) {
+    uint8_t *at = bytes + 4 * index;
+    at[0] = (uint8_t)(number & 255);
+    at[1] = (uint8_t)(number >> 8 & 255);
+    at[2] = (uint8_t)(number >> 16 & 255);
+    at[3] = (uint8_t)(number >> 24);
+}
+
+/* IBAT, in mA, as an event's number: 2n for n >= 0, else -2n-1. The argument is evaluated once. */
+static inline uint32_t cheukdane_ibat(int32_t ma) {
+    int64_t wide = ma;
+    return (uint32_t)(wide < 0 ? -2 * wide - 1 : 2 * wide);
+}
+#define CHEUKDANE_IBAT(ma) cheukdane_ibat(ma)
+
+/* ---- Answers ---- */
 
 struct cheukdane_answer {
     uint32_t number;
@@ -52,9 +237,9 @@ struct cheukdane_answer {
 
 struct cheukdane_played {
     uint32_t number;
-    uint32_t kind;  /* of the record that was read; 0 where none was */
-    uint64_t place; /* where that record, or what can't be read, starts; the given place where none was looked for */
-    uint64_t next;  /* where the next record starts; `place` where none was read */
+    uint32_t kind;  /* of the record that was read; 0 if none was */
+    uint64_t place; /* where that record, or what can't be read, starts; the given place if none was looked for */
+    uint64_t next;  /* where the next record starts; `place` if none was read */
 };
 
 struct cheukdane_replayed {
@@ -83,33 +268,49 @@ struct cheukdane_compared {
     uint64_t place;  /* where the rest, or the record, starts */
 };
 
-/* Makes the image of a model before its power-on. 5 where `c_image` is of another length. */
+/* ---- Calls ---- */
+
+/* The number of the rules by which the archive linked judges a log: see CHEUKDANE_RULES. */
+uint32_t cheukdane_rules(void);
+
+/* Makes the image of a model before its power-on. 5 if `image` is of another length. */
 struct cheukdane_answer cheukdane_off(uint8_t *image, size_t image_length);
 
-/* Plays the record at a place of a log. Accepted: the image is the model after it and `report_state` shows it. Refused by the model: 5 to 11, with the kind, and `next` leads on
- * to the next record. Unreadable: 1 to 4 and kind 0. At the log's end or past it: number 0 and kind 0, and no byte is changed. With 5 for the image or 12 no record is
- * looked for: kind 0. */
-struct cheukdane_played cheukdane_play(uint8_t *image, size_t image_length, const uint8_t *log, size_t log_length, size_t place, uint8_t *shown, size_t shown_length);
+/* Plays the record at a place of a log. Accepted: the image is the model after it and `shown` shows it. Refused by the
+ * model: 5 to 11, with the kind, and `next` leads on to the next record. Unreadable: 1 to 4 and kind 0. At the log's
+ * end or past it: number 0 and kind 0, and no byte is changed. With 5 for the image or 12 no record is looked for: kind
+ * 0. */
+struct cheukdane_played cheukdane_play(uint8_t *image, size_t image_length, const uint8_t *log, size_t log_length,
+                                       size_t place, uint8_t *shown, size_t shown_length);
 
-/* Plays every record of a log from a place on, to the log's end or to one that can't be read: what a head does when it starts, or catches up. The image is the model after
- * them; records that the model refuses are passed over. From the log's end or past it no record is read, and `place` is as given, as it is with a refusal. */
-struct cheukdane_replayed cheukdane_replay(uint8_t *image, size_t image_length, const uint8_t *log, size_t log_length, size_t place);
+/* Plays every record of a log from a place on, to the log's end or to one that can't be read: what a head does when it
+ * starts, or catches up. The image is the model after them; records that the model refuses are passed over. From the
+ * log's end or past it no record is read, and `place` is as given, as it is with a refusal. */
+struct cheukdane_replayed cheukdane_replay(uint8_t *image, size_t image_length, const uint8_t *log, size_t log_length,
+                                           size_t place);
 
-/* One event outside a log: its kind, and the kind's numbers as words, just as many as it has. An unknown kind is 4; words that aren't as many are 5. */
-struct cheukdane_answer cheukdane_event(uint8_t *image, size_t image_length, uint32_t kind, const uint8_t *words, size_t words_length, uint8_t *shown, size_t shown_length);
+/* One event outside a log: its kind, and the kind's numbers as words, just as many as it has. An unknown kind is 4;
+ * words that aren't as many are 5. */
+struct cheukdane_answer cheukdane_event(uint8_t *image, size_t image_length, uint32_t kind, const uint8_t *words,
+                                        size_t words_length, uint8_t *shown, size_t shown_length);
 
 /* The report, the flags and STAT of the model as it stands; 6 before a power-on. */
-struct cheukdane_answer cheukdane_report(const uint8_t *image, size_t image_length, uint8_t *report, size_t report_length);
+struct cheukdane_answer cheukdane_report(const uint8_t *image, size_t image_length, uint8_t *report,
+                                         size_t report_length);
 
 /* A register's byte; 6 before a power-on, then 10 for an address that isn't 0x15 to 0x1C. */
 struct cheukdane_byte cheukdane_register(const uint8_t *image, size_t image_length, uint32_t address);
 
-/* Writes an event's record at the start of `out`; 12 where it doesn't fit. Kind and words as for cheukdane_event; the model isn't asked. */
-struct cheukdane_written cheukdane_write(uint32_t kind, const uint8_t *words, size_t words_length, uint8_t *out, size_t out_length);
+/* Writes an event's record at the start of `out`; 12 if it doesn't fit. Kind and words as for cheukdane_event; the
+ * model isn't asked. */
+struct cheukdane_written cheukdane_write(uint32_t kind, const uint8_t *words, size_t words_length, uint8_t *out,
+                                         size_t out_length);
 
-/* Reads two logs side by side. Where one is the other's start: the log whose rest is more, and where that rest starts (equal logs: the first, at its end). Else 14, or 1 to 4
- * for a record that can't be read, the first log's before the second's, with the record's number and where it starts. */
-struct cheukdane_compared cheukdane_compare(const uint8_t *first, size_t first_length, const uint8_t *second, size_t second_length);
+/* Reads two logs side by side. If one is the other's start: the log whose rest is more, and where that rest starts
+ * (equal logs: the first, at its end). Else 14, or 1 to 4 for a record that can't be read, the first log's before the
+ * second's, with the record's number and where it starts. */
+struct cheukdane_compared cheukdane_compare(const uint8_t *first, size_t first_length, const uint8_t *second,
+                                            size_t second_length);
 
 #ifdef __cplusplus
 }

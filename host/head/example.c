@@ -18,7 +18,7 @@ static const char EXAMPLE_LINES[] = "1 1 0 0 0 0 3300 1 32\n"
 
 static size_t line(char *lines, size_t used, unsigned number, struct cheukdane_played played, const uint8_t *show) {
     int more = snprintf(lines + used, LINES_ROOM - used, "%u %" PRIu32 " %" PRIu32 " %" PRIu32 " %" PRIu32 " %" PRIu32 " %" PRIu32 " %" PRIu32 " %" PRIu32 "\n",
-                        number, played.kind, played.number, word(show, 0), word(show, 1), word(show, 2), word(show, 3), word(show, 4), word(show, 5));
+                        number, played.kind, played.number, cheukdane_word(show, 0), cheukdane_word(show, 1), cheukdane_word(show, 2), cheukdane_word(show, 3), cheukdane_word(show, 4), cheukdane_word(show, 5));
     return used + (size_t)more;
 }
 
@@ -72,7 +72,7 @@ static void what_is_read(void) {
     play(&head, EXAMPLE, sizeof EXAMPLE, 0);
     holds(cheukdane_report(head.image, sizeof head.image, report, sizeof report).number == 0, "a report after it");
     for (size_t at = 0; at < 6; at++) {
-        holds(word(report, at) == wanted[at], "each of the report's numbers");
+        holds(cheukdane_word(report, at) == wanted[at], "each of the report's numbers");
     }
     for (uint32_t at = 0; at < 8; at++) {
         struct cheukdane_byte byte = cheukdane_register(head.image, sizeof head.image, 0x15 + at);
@@ -80,10 +80,11 @@ static void what_is_read(void) {
     }
     holds(cheukdane_register(head.image, sizeof head.image, 0x14).number == 10, "0x14 is no register");
     holds(cheukdane_register(head.image, sizeof head.image, 0x1D).number == 10, "0x1D is no register");
-    holds(word(head.image, 0) == 1 && word(head.image, CHEUKDANE_PHASE) == 3, "the image is on, and in phase 3");
-    holds(word(head.image, CHEUKDANE_SETTINGS) == 8400, "the image's VREG");
-    holds(word(head.image, CHEUKDANE_SAMPLE) == 1000, "the image's last stamp");
-    holds(word(head.image, CHEUKDANE_FLAGS) == 97, "the image's flags");
+    holds(cheukdane_word(head.image, 0) == CHEUKDANE_FORMAT, "the image has this format");
+    holds(cheukdane_word(head.image, CHEUKDANE_PHASE) == CHEUKDANE_PHASE_FAST, "the image is in phase 3");
+    holds(cheukdane_word(head.image, CHEUKDANE_SETTINGS) == 8400, "the image's VREG");
+    holds(cheukdane_word(head.image, CHEUKDANE_SAMPLE) == 1000, "the image's last stamp");
+    holds(cheukdane_word(head.image, CHEUKDANE_FLAGS) == 97, "the image's flags");
     shown(before, "report, STAT, registers and image after it");
 }
 

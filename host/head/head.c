@@ -17,14 +17,9 @@ void shown(int failures_before, const char *what) {
     printf("%s %s\n", failures == failures_before ? "ok    " : "FAILED", what);
 }
 
-uint32_t word(const uint8_t *bytes, size_t index) {
-    const uint8_t *at = bytes + 4 * index;
-    return (uint32_t)at[0] | (uint32_t)at[1] << 8 | (uint32_t)at[2] << 16 | (uint32_t)at[3] << 24;
-}
-
 size_t put_words(uint8_t *bytes, const uint32_t *numbers, size_t count) {
-    for (size_t at = 0; at < 4 * count; at++) {
-        bytes[at] = (uint8_t)(numbers[at / 4] >> 8 * (at % 4));
+    for (size_t at = 0; at < count; at++) {
+        cheukdane_put_word(bytes, at, numbers[at]);
     }
     return 4 * count;
 }

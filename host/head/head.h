@@ -28,8 +28,7 @@ void holds(int fact, const char *what);
 /* Ends the showing of one thing. */
 void shown(int failures_before, const char *what);
 
-/* A word of bytes, lowest byte first; numbers as such words, and how many bytes they are; whether bytes are the same. */
-uint32_t word(const uint8_t *bytes, size_t index);
+/* Numbers as words, and how many bytes they are; whether bytes are the same. */
 size_t put_words(uint8_t *bytes, const uint32_t *numbers, size_t count);
 int same(const uint8_t *one, const uint8_t *other, size_t length);
 
@@ -46,6 +45,7 @@ size_t play(struct head *head, const uint8_t *log, size_t length, size_t place);
 extern const uint8_t EXAMPLE[28];
 
 /* What is shown, by subject. */
+void show_the_header(void);
 void show_the_example(void);
 void show_two_heads(void);
 void show_bad_images(void);

@@ -1,24 +1,25 @@
 /* Two heads over one log: in step, one that has missed records, and two that part. */
 #include "head.h"
 
-/* A morning at a head: a charge from short to done, settings, registers, flags, and events that are refused. */
+/* A morning at a head: a charge from short to done, settings, registers and flags. IBAT stands as it is logged: 180 is
+ * 90 mA, 1 is -1 mA. */
 static const struct event MORNING[] = {
-    {1, 10, {2, 5, 4, 6040, 0xFFFFFF00u, 4500, 3600, 7200, 36000, 160}},
-    {5, 6, {0xFFFFFFF0u, 12000, 3000, CHEUKDANE_IBAT(90), 55000, 0}},
-    {5, 6, {1000, 12000, 5000, CHEUKDANE_IBAT(110), 55000, 4}},
-    {2, 2, {2, 1000}},
-    {5, 6, {60000, 12000, 7600, CHEUKDANE_IBAT(900), 69000, 0}},
-    {3, 2, {0x1B, 0x40}},
-    {3, 2, {0x1C, 0x08}},
-    {6, 0, {0}},
-    {4, 0, {0}},
-    {5, 6, {120000, 12000, 8395, CHEUKDANE_IBAT(500), 55000, 0}},
-    {5, 6, {180000, 12000, 8400, CHEUKDANE_IBAT(-1), 55000, 0}},
-    {2, 2, {14, 4095}},
-    {5, 6, {240000, 2000, 8380, CHEUKDANE_IBAT(-300), 55000, 0}},
-    {5, 6, {300000, 5000, 8000, CHEUKDANE_IBAT(1000), 0, 32}},
-    {7, 0, {0}},
-    {4, 0, {0}},
+    {CHEUKDANE_KIND_POWER_ON, 10, {2, 5, 4, 6040, 0xFFFFFF00u, 4500, 3600, 7200, 36000, 160}},
+    {CHEUKDANE_KIND_OBSERVE, 6, {0xFFFFFFF0u, 12000, 3000, 180, 55000, 0}},
+    {CHEUKDANE_KIND_OBSERVE, 6, {1000, 12000, 5000, 220, 55000, 4}},
+    {CHEUKDANE_KIND_SET, 2, {2, 1000}},
+    {CHEUKDANE_KIND_OBSERVE, 6, {60000, 12000, 7600, 1800, 69000, 0}},
+    {CHEUKDANE_KIND_WRITE, 2, {0x1B, 0x40}},
+    {CHEUKDANE_KIND_WRITE, 2, {0x1C, 0x08}},
+    {CHEUKDANE_KIND_SERVICE, 0, {0}},
+    {CHEUKDANE_KIND_TAKE_FLAGS, 0, {0}},
+    {CHEUKDANE_KIND_OBSERVE, 6, {120000, 12000, 8395, 1000, 55000, 0}},
+    {CHEUKDANE_KIND_OBSERVE, 6, {180000, 12000, 8400, 1, 55000, 0}},
+    {CHEUKDANE_KIND_SET, 2, {14, 4095}},
+    {CHEUKDANE_KIND_OBSERVE, 6, {240000, 2000, 8380, 599, 55000, 0}},
+    {CHEUKDANE_KIND_OBSERVE, 6, {300000, 5000, 8000, 2000, 0, 32}},
+    {CHEUKDANE_KIND_RESET, 0, {0}},
+    {CHEUKDANE_KIND_TAKE_FLAGS, 0, {0}},
 };
 enum { EVENTS = sizeof MORNING / sizeof MORNING[0] };
 
@@ -51,12 +52,12 @@ static void a_charge_is_seen(void) {
     start(&head);
     for (size_t at = 0; at < EVENTS; at++) {
         does(&head, &MORNING[at], show);
-        holds(word(show, 0) == phases[at], "the phase after each event");
-        holds(word(show, 3) == 551, "6,040 ohms give 551 mA");
-        if (MORNING[at].kind == 4) {
-            holds(word(show, 6) == held && word(show, 5) == 0, "the held flags are handed back and cleared");
+        holds(cheukdane_word(show, CHEUKDANE_SHOWN_PHASE) == phases[at], "the phase after each event");
+        holds(cheukdane_word(show, CHEUKDANE_SHOWN_LIMIT) == 551, "6,040 ohms give 551 mA");
+        if (MORNING[at].kind == CHEUKDANE_KIND_TAKE_FLAGS) {
+            holds(cheukdane_word(show, CHEUKDANE_SHOWN_HANDED) == held && cheukdane_word(show, CHEUKDANE_SHOWN_FLAGS) == 0, "the held flags are handed back and cleared");
         }
-        held = word(show, 5);
+        held = cheukdane_word(show, CHEUKDANE_SHOWN_FLAGS);
     }
     shown(before, "a charge goes from short to done, and a fault ends the next");
 }
@@ -101,7 +102,7 @@ static void heads_that_part(void) {
             does(&other, at == parted ? &strange : &MORNING[at], show);
         }
         struct cheukdane_compared answer = cheukdane_compare(one.log, one.length, other.log, other.length);
-        holds(answer.number == 14 && answer.log == 0 && answer.record == parted + 1 && answer.place == place, "14, with the record and where it starts");
+        holds(answer.number == CHEUKDANE_REFUSED_LOGS_PART && answer.log == 0 && answer.record == parted + 1 && answer.place == place, "14, with the record and where it starts");
     }
     shown(before, "two logs that part: 14, with record and offset");
 }

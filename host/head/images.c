@@ -3,7 +3,7 @@
 
 #include <string.h>
 
-/* Lends bytes to every call that takes an image; none may change where all are refused. Gives whether the event was. */
+/* Lends bytes to every call that takes an image; none may change if all are refused. Gives whether the event was. */
 static int refused(uint8_t *image, size_t length, uint32_t *number) {
     uint8_t kept[2 * CHEUKDANE_IMAGE], show[CHEUKDANE_SHOWN], report[CHEUKDANE_REPORT];
     if (length) {

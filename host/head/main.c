@@ -2,6 +2,7 @@
 #include "head.h"
 
 int main(void) {
+    show_the_header();
     show_the_example();
     show_two_heads();
     show_bad_images();

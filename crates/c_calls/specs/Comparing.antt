@@ -5,7 +5,7 @@ use Rattle.log_event.specs.Kinds.{kinds}
 use Rattle.log_pairs.specs.Comparing.{Answer, first, second, refused, compareOf}
 use Rattle.c_calls.specs.declared.answer.ComparedLogs.{ComparedLogs}
 
--- "Where one is the other's start: the log whose rest is more, and where that rest starts (equal logs: the first, at its end). Else 14, or 1 to 4 for a record that can't
+-- "If one is the other's start: the log whose rest is more, and where that rest starts (equal logs: the first, at its end). Else 14, or 1 to 4 for a record that can't
 -- be read, the first log's before the second's, with the record's number and where it starts."
 abbrev pub sidesOf : Answer → ComparedLogs
 sidesOf (first place) = record { number = 0; log = 1; count = 0; place = place }

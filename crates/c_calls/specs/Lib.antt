@@ -2,6 +2,7 @@
 pub mod Landing
 pub mod Playing
 pub mod Replaying
+pub mod Rules
 pub mod Showing
 pub mod Writing
 pub mod Comparing

@@ -18,11 +18,11 @@ use Rattle.c_calls.specs.Landing.{Left, left, Both, both, answered, read
 use Rattle.c_calls.specs.declared.answer.Answer.{Answer}
 use Rattle.c_calls.specs.declared.answer.Played.{Played}
 
--- "Makes the image of a model before its power-on. 5 where `image` is of another length."
+-- "Makes the image of a model before its power-on. 5 if `image` is of another length."
 unfoldable pub offOf : List ℕ → Left Answer
 offOf image = pick (isLong image) (left (answered 0) (imageOf Off)) (left (answered 5) image)
 
--- "of the record that was read; 0 where none was", "where the next record starts; `place` where none was read"
+-- "of the record that was read; 0 if none was", "where the next record starts; `place` if none was read"
 abbrev pub unread : ℕ → ℕ → Played
 unread number place = record { number = number; kind = 0; place = place; next = place }
 

@@ -15,7 +15,7 @@ abbrev pub putTold : Wrote → Put
 putTold (wrote count) = record { number = 0; count = count; place = 0 }
 putTold (writing.refused number place) = record { number = number; count = 0; place = place }
 
--- "Writes an event's record at the start of `out`; 12 where it doesn't fit. Kind and words as for cheukdane_event; the model isn't asked."
+-- "Writes an event's record at the start of `out`; 12 if it doesn't fit. Kind and words as for cheukdane_event; the model isn't asked."
 abbrev pub writeGiven : Told Event → List ℕ → Left Put
 writeGiven (refused number) out = left (record { number = number; count = 0; place = 0 }) out
 writeGiven (accepted e) out = left (putTold (written (spellEvent e) out)) (put (spellEvent e) out)

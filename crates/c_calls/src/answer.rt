@@ -8,11 +8,11 @@ pub struct Answer {
 #[repr(C)]
 pub struct Played {
     pub number: u32,
-    // of the record that was read; 0 where none was
+    // of the record that was read; 0 if none was
     pub kind: u32,
     // where that record, or what can't be read, starts
     pub place: usize,
-    // where the next record starts; `place` where none was read
+    // where the next record starts; `place` if none was read
     pub next: usize,
 }
 

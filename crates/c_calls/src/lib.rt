@@ -4,5 +4,6 @@ pub mod comparing;
 mod landing;
 pub mod playing;
 pub mod replaying;
+pub mod rules;
 pub mod showing;
 pub mod writing;

@@ -1,4 +1,4 @@
--- Images: load after save is the model, and one image each.
+-- Images: load after save is the model, one image each, and no image of another format.
 use Prim.Native.Nat.{ℕ}
 use mathlib.Core.Path.{_≡_, refl, sym, ap, _∙_}
 use mathlib.Core.Bool.{Bool, true, false}
@@ -6,7 +6,7 @@ use mathlib.Core.List.{List, _∷_}
 use native.Mathlib.Omega.{arith}
 use lib.ListN.{length, drop}
 use Rattle.base.specs.Pick.{pick}
-use Rattle.base.specs.Told.{accepted, refused}
+use Rattle.base.specs.Told.{Told, accepted, refused}
 use Rattle.state_parts.specs.declared.state.State.{State}
 use Rattle.state_parts.specs.declared.state.Model.{Model}
 use Rattle.state_parts.specs.declared.state.Model.the-variants.{Off, On}
@@ -17,9 +17,12 @@ use Rattle.c_words.proofs.Sames.{same-told}
 use Rattle.c_list.specs.Numbers.{stateNumbers}
 use Rattle.c_list.proofs.Lengths.{state-long}
 use Rattle.c_list.proofs.Again.{made-again}
-use Rattle.c_image.specs.Images.{modelNumbers, imageOf, modelFrom, modelIn}
-use Rattle.c_image.specs.Promises.{Storable, LoadsBack, OneImage, ImageLong, ImagesDiffer, OneAnswer}
+use Rattle.c_image.specs.Images.{zeros, imageFormat, modelNumbers, imageOf, modelFrom, modelIn}
+use Rattle.c_image.specs.Promises.{Storable, LoadsBack, OneImage, ImageLong, ImagesDiffer, FormatNotZero, OffIsZeros, OtherFormat, OneAnswer}
 use Rattle.c_image.specs.declared.Loaded.the-variants.{Held, NoImage}
+
+pub format-not-zero : FormatNotZero
+format-not-zero e = omega arith
 
 numbers-long : (m : Model) → length (modelNumbers m) ≡ 54
 numbers-long Off = refl
@@ -46,9 +49,9 @@ from-on : (s : State) → Storable (On s) → modelFrom (imageOf (On s)) ≡ On 
 unfolding modelFrom imageOf
 from-on s h =
     let all : List ℕ = stateNumbers s in
-    let e = reads-back (1 ∷ all) (omega arith, h .0) in
-    let words : wordsIn 53 (drop 4 (bytesOf (1 ∷ all))) ≡ all = ap (λ k. wordsIn k (drop 4 (bytesOf (1 ∷ all)))) (sym (state-long s)) ∙ rest-words 1 all e in
-    rw (first-word 1 all e, words, made-again s (h .1))
+    let e = reads-back (imageFormat ∷ all) (omega arith, h .0) in
+    let words : wordsIn 53 (drop 4 (bytesOf (imageFormat ∷ all))) ≡ all = ap (λ k. wordsIn k (drop 4 (bytesOf (imageFormat ∷ all)))) (sym (state-long s)) ∙ rest-words imageFormat all e in
+    rw (first-word imageFormat all e, words, made-again s (h .1))
 
 from-image : (m : Model) → Storable m → modelFrom (imageOf m) ≡ m
 from-image Off h = from-off
@@ -74,6 +77,29 @@ pub images-differ : ImagesDiffer
 images-differ m n hm hn e =
     let told : accepted m ≡ accepted n = sym (loads-back m hm) ∙ ap modelIn e ∙ loads-back n hn in
     cc
+
+pub off-is-zeros : OffIsZeros
+unfolding imageOf bytesOf
+off-is-zeros = refl
+
+-- the first word of a model's image
+image-first : (m : Model) → (wordAt (imageOf m) 0 ≡ 0 → ⊥) → (wordAt (imageOf m) 0 ≡ imageFormat → ⊥) → ⊥
+unfolding imageOf bytesOf wordAt
+image-first Off off other = off refl
+image-first (On s) off other = other refl
+
+told-other : (t : Bool) (bytes image : List ℕ) (m : Model) → (t ≡ true → image ≡ bytes) → image ≡ imageOf m → (wordAt bytes 0 ≡ 0 → ⊥) → (wordAt bytes 0 ≡ imageFormat → ⊥)
+    → _≡_ {A = Told Model} (pick t (accepted m) (refused 5)) (refused 5)
+told-other true bytes image m same is off other =
+    let e : imageOf m ≡ bytes = sym is ∙ same refl in
+    absurd (image-first m (λ z. off (ap (λ b. wordAt b 0) (sym e) ∙ z)) (λ z. other (ap (λ b. wordAt b 0) (sym e) ∙ z)))
+told-other false bytes image m same is off other = refl
+
+pub other-format : OtherFormat
+unfolding modelIn
+other-format bytes off other =
+    let m = modelFrom bytes in
+    told-other (sameBytes (imageOf m) bytes) bytes (imageOf m) m (same-told .told (imageOf m) bytes) refl off other
 
 pub loaded-one : OneAnswer
 loaded-one (Held m) (Held n) e = cc

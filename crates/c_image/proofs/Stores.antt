@@ -66,7 +66,7 @@ all-four true true false d e = refl
 all-four true false c d e = refl
 all-four false b c d e = refl
 
-pub both-same : (bytes ns : List ℕ) (first : ℕ) → length bytes ≡ 216
+both-same : (bytes ns : List ℕ) (first : ℕ) → length bytes ≡ 216
     → (sameBytes (bytesOf (first ∷ [])) (take 4 bytes) && sameBytes (bytesOf ns) (take (length bytes - 4) (drop 4 bytes))) ≡ sameBytes (bytesOf (first ∷ ns)) bytes
 unfolding bytesOf sameBytes
 both-same (a ∷ b ∷ c ∷ d ∷ bytes) ns first l =
@@ -76,6 +76,10 @@ both-same [] ns first l = absurd (let z : 0 ≡ 216 = l in omega arith)
 both-same (a ∷ []) ns first l = absurd (let z : 1 ≡ 216 = l in omega arith)
 both-same (a ∷ b ∷ []) ns first l = absurd (let z : 2 ≡ 216 = l in omega arith)
 both-same (a ∷ b ∷ c ∷ []) ns first l = absurd (let z : 3 ≡ 216 = l in omega arith)
+
+pub holds-both : (bytes ns : List ℕ) (first : ℕ) (begins goes-on r : Bool) → length bytes ≡ 216 → begins ≡ sameBytes (bytesOf (first ∷ [])) (take 4 bytes)
+    → goes-on ≡ sameBytes (bytesOf ns) (take (length bytes - 4) (drop 4 bytes)) → r ≡ (begins && goes-on) → r ≡ sameBytes (bytesOf (first ∷ ns)) bytes
+holds-both bytes ns first begins goes-on r l eb eg er = er ∙ rw (eb, eg) (both-same bytes ns first l)
 
 -- saving
 pub long-saved : (bytes : List ℕ) (m : Model) → length bytes ≡ 216 → (true ≡ eqb (length bytes) 216) × (imageOf m ≡ savedIn bytes m)

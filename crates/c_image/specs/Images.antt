@@ -19,10 +19,14 @@ abbrev pub zeros : ℕ → List ℕ
 zeros zero = []
 zeros (suc k) = 0 ∷ zeros k
 
--- "54 words. Word 0 is 0 before a power-on (then all other words are 0) or 1. The state's numbers follow".
+-- "CHEUKDANE_FORMAT": the number of this list of numbers; a landing that changes the list gives it another. It is never 0.
+abbrev pub imageFormat : ℕ
+imageFormat = 1
+
+-- "54 words. Word 0 is 0 before a power-on, and then all other words are 0 too; after it, it is the format's number, CHEUKDANE_FORMAT, and the state's numbers follow".
 abbrev pub modelNumbers : Model → List ℕ
 modelNumbers Off = 0 ∷ zeros 53
-modelNumbers (On s) = 1 ∷ stateNumbers s
+modelNumbers (On s) = imageFormat ∷ stateNumbers s
 
 unfoldable pub imageOf : Model → List ℕ
 imageOf m = bytesOf (modelNumbers m)
@@ -31,7 +35,7 @@ imageOf m = bytesOf (modelNumbers m)
 unfoldable pub modelFrom : List ℕ → Model
 modelFrom bytes = pick (eqb (wordAt bytes 0) 0) Off (On (stateFrom (wordsIn 53 (drop 4 bytes))))
 
--- "bytes that aren't an image, or are of another length .., are 5": bytes are an image where they are just that model's
+-- "bytes that aren't an image, or are of another length .., are 5": bytes are an image if and only if they are the image of the model that they would be
 unfoldable pub modelIn : List ℕ → Told Model
 modelIn bytes = pick (sameBytes (imageOf (modelFrom bytes)) bytes) (accepted (modelFrom bytes)) (refused 5)
 

@@ -2,14 +2,16 @@
 use Prim.Native.Nat.{ℕ}
 use mathlib.Core.Path.{_≡_}
 use mathlib.Core.List.{List}
+use mathlib.Core.Logic.{_≢_}
 use lib.ListN.{length}
-use Rattle.base.specs.Told.{accepted}
+use Rattle.base.specs.Told.{accepted, refused}
 use Rattle.state_parts.specs.declared.state.Model.{Model}
 use Rattle.state_parts.specs.declared.state.Model.the-variants.{Off, On}
+use Rattle.c_words.specs.Words.{wordAt}
 use Rattle.c_words.specs.Promises.{AllWords}
 use Rattle.c_list.specs.Promises.{Stored}
 use Rattle.c_list.specs.Numbers.{stateNumbers}
-use Rattle.c_image.specs.Images.{imageOf, modelIn, loadedTold}
+use Rattle.c_image.specs.Images.{zeros, imageFormat, imageOf, modelIn, loadedTold}
 use Rattle.c_image.specs.declared.Loaded.{Loaded}
 
 -- every number of the model has 32 bits and every stored byte eight, as in every model of the program's
@@ -32,6 +34,18 @@ ImageLong = (m : Model) → length (imageOf m) ≡ 216
 -- two models never have one image
 abbrev pub ImagesDiffer : Type 0
 ImagesDiffer = (m n : Model) → Storable m → Storable n → imageOf m ≡ imageOf n → m ≡ n
+
+-- "It is never 0": the first word tells a model that is on from one that is off
+abbrev pub FormatNotZero : Type 0
+FormatNotZero = imageFormat ≢ 0
+
+-- "zeroed bytes are the image of a model that is off", in every format
+abbrev pub OffIsZeros : Type 0
+OffIsZeros = imageOf Off ≡ zeros 216
+
+-- "an image of another format is 5"
+abbrev pub OtherFormat : Type 0
+OtherFormat = (bytes : List ℕ) → wordAt bytes 0 ≢ 0 → wordAt bytes 0 ≢ imageFormat → modelIn bytes ≡ refused 5
 
 -- what is told of an answer settles it
 abbrev pub OneAnswer : Type 0

@@ -1,4 +1,4 @@
-// A model's image: its numbers as words, and the model back out of them.
+// A model's image: its format, its numbers as words, and the model back out of them.
 use c_list::list::Numbers;
 use c_words::same;
 use state_parts::state::Model;
@@ -8,6 +8,9 @@ ghost use lib.ListN.{length};
 ghost use Rattle.c_words.specs.Words.{bytesOf};
 ghost use Rattle.c_words.specs.Same.{sameBytes};
 ghost use Rattle.c_image.specs.Images.{imageOf, modelFrom, modelIn, loadedTold, isLong, savedIn};
+
+// The first word of the image of a model that is on: the number of this list of a state's numbers (`imageFormat`). Never 0, the first word of a model that is off.
+const FORMAT: u32 = 1;
 
 // The model of an image, or that the bytes aren't one.
 pub enum Loaded {
@@ -35,7 +38,7 @@ fn put_model(image: &mut [u8], m: Model)
             let none = [0u32; 53];
             put(image, 0, none)
         }
-        Model::On(s) => put(image, 1, c_list::list::numbers_of(s)),
+        Model::On(s) => put(image, FORMAT, c_list::list::numbers_of(s)),
     }
 }
 
@@ -86,7 +89,7 @@ fn is_image(image: &[u8], m: Model) -> bool
             let none = [0u32; 53];
             holds(image, 0, none)
         }
-        Model::On(s) => holds(image, 1, c_list::list::numbers_of(s)),
+        Model::On(s) => holds(image, FORMAT, c_list::list::numbers_of(s)),
     }
 }
 

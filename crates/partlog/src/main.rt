@@ -1,4 +1,5 @@
-// Compares the two logs that its arguments name: prints `rest FIRST` or `rest SECOND` and an offset, or `refused`, a number, a record and an offset. What matters is in the crates below: main reads, compares and prints.
+// Compares the two logs that its arguments name: prints `rest FIRST` or `rest SECOND` and an offset, or `refused`, a number, a record and an offset.
+// What matters is in the crates below: main reads, compares and prints.
 use base::written::Written;
 use libc::STDERR_FILENO;
 use libc::STDOUT_FILENO;

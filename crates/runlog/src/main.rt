@@ -1,6 +1,7 @@
 // Runs the log on standard input and prints a line for each record, then the last line. All that matters is in the crates below: main reads, walks and prints.
 use base::refusal;
 use base::written::Written;
+use libc::STDERR_FILENO;
 use libc::STDIN_FILENO;
 use libc::STDOUT_FILENO;
 use report_pages::PageLines;
@@ -35,7 +36,7 @@ fn print_end(number: u32, code: u32, offset: usize) {
     }
 }
 
-// Prints the last line where a walk ends, and whether it does.
+// Prints the last line if a walk ends, and tells whether it does.
 fn ended(w: Walk, stop: Stop) -> bool {
     match stop {
         Stop::Full => false,
@@ -50,7 +51,7 @@ fn ended(w: Walk, stop: Stop) -> bool {
     }
 }
 
-// Runs a log of 65,536 bytes at the most: 4,097 pages of 16 are enough (`EnoughPages`, crate `step_replay`).
+// Runs a log of at most 65,536 bytes: 4,097 pages of 16 are enough (`EnoughPages`, crate `step_replay`).
 fn run(log: &[u8]) {
     let mut walk = walking::start();
     let mut turns: usize = 0;
@@ -68,11 +69,22 @@ fn run(log: &[u8]) {
     }
 }
 
+// Whether a read failed. A read that fails looks like the input's end: one more read tells the two apart.
+fn read_failed() -> bool {
+    let mut more = [0u8; 1];
+    libc::read(STDIN_FILENO, &mut more) != 0
+}
+
 fn main() {
     let mut input = [0u8; 65537];
     let n = io::read_full(STDIN_FILENO, &mut input);
     if 65536 < n {
         print_end(0, 13, 0);
+        return;
+    }
+    if read_failed() {
+        io::write_all(STDERR_FILENO, b"runlog: cannot read ");
+        os::fail(b"standard input");
         return;
     }
     run(&input[..n]);

@@ -45,7 +45,7 @@ fn deepest(all: &BTreeMap<String, Function>, name: &str, above: &mut Vec<String>
 
 /// Whether a function is a step's or the number reader's.
 fn is_asked_for(name: &str) -> bool {
-    name.starts_with("cheukdane_") || name.ends_with("::step") || name.starts_with("number::")
+    name.starts_with("cheukdane_") || name.ends_with("::step") || name.starts_with("log_number::")
 }
 
 /// All that `names` call, and what those call, themselves too.
@@ -69,7 +69,7 @@ pub fn show(archive: &Path) {
         let (own, names) = (all[name].frame, chain.names.join(" > "));
         println!("  {name:<40} {own:>7} {:>8}  {names}", chain.bytes);
     }
-    for (what, ending) in [("a step", "::step"), ("the number reader", "number::read")] {
+    for (what, ending) in [("a step", "::step"), ("the number reader", "log_number::read")] {
         if !asked.iter().any(|name| name.ends_with(ending)) {
             println!("  {what} is no function of its own here: the calls above have it in them");
         }

@@ -1,7 +1,7 @@
 //! `bench ARCHIVE RUNLOG REFERENCE-RUNLOG`: the static library and the
 //! reference on the same logs, in one run. The library linked here should be
 //! the archive named. (`bench once CONTENDER` is what the first of them has
-//! counted of itself.)
+//! counted of itself; `bench stack ARCHIVE` is the table of stack bytes alone.)
 
 mod counted;
 mod events;
@@ -18,6 +18,7 @@ fn main() -> ExitCode {
     let words: Vec<String> = env::args().skip(1).collect();
     match words.iter().map(String::as_str).collect::<Vec<_>>().as_slice() {
         ["once", contender] => events::once(contender),
+        ["stack", archive] => frames::show(Path::new(archive)),
         [archive, runlog, reference] => {
             events::show();
             println!();

@@ -10,7 +10,7 @@ use std::fs::{self, File};
 use std::path::{Path, PathBuf};
 use std::process::{Command, Stdio};
 
-/// A log of just as many bytes as a program takes, filled up with kind 4.
+/// A log of exactly as many bytes as a program takes, filled up with kind 4.
 fn long_log() -> Vec<u8> {
     let mut log = Vec::new();
     for event in plausible_events(1, MOST_INPUT / 2) {

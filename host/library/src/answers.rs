@@ -16,11 +16,11 @@ pub struct Answer {
 pub struct Played {
     /// 0, or the refusal's number.
     pub number: u32,
-    /// The kind of the record that was read; 0 where none was.
+    /// The kind of the record that was read; 0 if none was.
     pub kind: u32,
     /// Where that record, or what can't be read, starts.
     pub place: u64,
-    /// Where the next record starts; `place` where none was read.
+    /// Where the next record starts; `place` if none was read.
     pub next: u64,
 }
 

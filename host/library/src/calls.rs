@@ -5,6 +5,7 @@ use crate::answers::{Answer, Byte, Compared, Played, Replayed, Written};
 use std::ptr;
 
 extern "C" {
+    fn cheukdane_rules() -> u32;
     fn cheukdane_off(image: *mut u8, image_length: usize) -> Answer;
     fn cheukdane_play(
         image: *mut u8,
@@ -67,6 +68,12 @@ fn start_mut(part: &mut [u8]) -> *mut u8 {
     } else {
         part.as_mut_ptr()
     }
+}
+
+/// The number of the rules.
+pub fn rules() -> u32 {
+    // SAFETY: nothing is lent.
+    unsafe { cheukdane_rules() }
 }
 
 /// Makes the image of a model before its power-on.

@@ -80,7 +80,7 @@ fn by_held_band(before: &Powered, event: &Event, step: Step) -> Step {
     }
 }
 
-/// The flags that an event sets where none is held.
+/// The flags that an event sets if none is held.
 fn edges_alone(before: &State, event: &Event) -> u32 {
     let step = Model::On(State { flags: 0, ..*before }).step(event);
     held_flags(&step.model) | step.handed

@@ -1,6 +1,6 @@
 //! A reference model as the bytes of an image, and back.
 
-use crate::layout::{bytes_of, words_of, IMAGE, IMAGE_WORDS};
+use crate::layout::{bytes_of, words_of, FORMAT, IMAGE, IMAGE_WORDS};
 use crate::words::Words;
 use reference::event::Sample;
 use reference::number::fold;
@@ -81,7 +81,7 @@ pub fn of(held: &Held) -> Vec<u8> {
 
 fn words(powered: &Powered) -> Vec<u32> {
     let Powered { cell, stamp, band, state } = powered;
-    let mut words = vec![1, *cell, state.pins.vchg, state.pins.ichg, state.ohms, *stamp];
+    let mut words = vec![FORMAT, *cell, state.pins.vchg, state.pins.ichg, state.ohms, *stamp];
     words.push(state.ceiling.0);
     words.extend(stages(&state.limits));
     words.push(state.period);
@@ -105,12 +105,13 @@ fn stages(per: &PerStage) -> [u32; 3] {
 }
 
 /// The model whose image the bytes are, if they are one: of an image's
-/// length, off with zeros alone or on, and each word within its field's type.
+/// length, off with zeros alone or of this format, and each word within its
+/// field's type.
 pub fn read(bytes: &[u8]) -> Option<Held> {
     let words = words_of(bytes).filter(|words| words.len() == IMAGE_WORDS)?;
     match words[0] {
         0 => words.iter().all(|word| *word == 0).then_some(Held::Off),
-        1 => Words::new(&words[1..]).powered().map(Held::On),
+        FORMAT => Words::new(&words[1..]).powered().map(Held::On),
         _ => None,
     }
 }

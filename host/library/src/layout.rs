@@ -1,6 +1,10 @@
 //! The header's constants: lengths of what is lent, and where an image's
 //! words stand.
 
+/// The number of the rules.
+pub const RULES: u32 = 1;
+/// The format of an image: word 0 of a model that is on.
+pub const FORMAT: u32 = 1;
 /// Bytes of a word.
 pub const WORD: usize = 4;
 /// Words of an image.

@@ -12,8 +12,8 @@ impl Tally {
         *self.0.entry(number).or_default() += 1;
     }
 
-    /// Fails unless just the answers `numbers` were met.
-    pub fn met_just(&self, numbers: impl IntoIterator<Item = u32>) {
+    /// Fails unless exactly the answers `numbers` were met.
+    pub fn met_exactly(&self, numbers: impl IntoIterator<Item = u32>) {
         let met: BTreeSet<u32> = self.0.keys().copied().collect();
         assert_eq!(met, numbers.into_iter().collect(), "the answers met: {:?}", self.0);
     }

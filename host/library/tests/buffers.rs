@@ -40,7 +40,7 @@ fn shown_at_every_length() {
             assert_eq!(shown[written..], buffer(length)[written..]);
         }
     }
-    tally.met_just([0, 5, 7, 8, 9, 10, 11, 12]);
+    tally.met_exactly([0, 5, 7, 8, 9, 10, 11, 12]);
 }
 
 #[test]
@@ -54,7 +54,7 @@ fn reports_at_every_length() {
             tally.count(both::report(&[0; IMAGE], &mut buffer(length)).number);
         }
     }
-    tally.met_just([0, 6, 12]);
+    tally.met_exactly([0, 6, 12]);
 }
 
 /// "5 before all else; then an answer buffer that is too short is 12; then
@@ -74,7 +74,7 @@ fn a_short_buffer_comes_after_the_image_and_before_all_else() {
             assert_eq!(both::event(&mut [2; IMAGE], kind, &[], &mut buffer(length)).number, 5);
         }
     }
-    tally.met_just([12]);
+    tally.met_exactly([12]);
     for length in 0..=REPORT {
         assert_eq!(both::report(&[2; IMAGE], &mut buffer(length)).number, 5);
     }
@@ -101,7 +101,7 @@ fn records_at_every_length() {
     for _ in 0..times(8_000) {
         write_at_every_length(&any_event(&mut rng), &mut tally);
     }
-    tally.met_just([0, 12]);
+    tally.met_exactly([0, 12]);
 }
 
 /// Numbers at every border of their spellings' lengths, one after another.
@@ -117,7 +117,7 @@ fn records_of_every_width() {
             write_at_every_length(&Event::Observe(sample), &mut tally);
         }
     }
-    tally.met_just([0, 12]);
+    tally.met_exactly([0, 12]);
 }
 
 #[test]

@@ -37,7 +37,7 @@ fn runs_outside_a_log_are_runs_of_one() {
             tally.count(number);
         }
     }
-    tally.met_just([0, 5, 6, 7, 8, 9, 10, 11]);
+    tally.met_exactly([0, 5, 6, 7, 8, 9, 10, 11]);
 }
 
 #[test]
@@ -50,7 +50,7 @@ fn any_events_on_any_model() {
         let mut off = [0; IMAGE];
         tally.count(given(&mut off, &any_event(&mut rng), &mut [0xEE; SHOWN]));
     }
-    tally.met_just([0, 5, 6, 7, 8, 9, 10, 11]);
+    tally.met_exactly([0, 5, 6, 7, 8, 9, 10, 11]);
 }
 
 /// "words that aren't as many are 5", be it by a byte.
@@ -119,5 +119,5 @@ fn any_kinds_and_words() {
         tally.count(both::event(&mut image, kind, &words, &mut [0xEE; SHOWN]).number);
         both::write(kind, &words, &mut vec![0xEE; rng.place(60)]);
     }
-    tally.met_just([0, 4, 5, 7, 8, 9, 10, 11]);
+    tally.met_exactly([0, 4, 5, 7, 8, 9, 10, 11]);
 }

@@ -1,6 +1,6 @@
 //! The constants used here are the header's.
 
-use library::layout;
+use library::{calls, layout};
 
 const HEADER: &str = include_str!("../../../include/cheukdane.h");
 
@@ -19,6 +19,8 @@ fn defined(name: &str) -> usize {
 #[test]
 fn constants_are_the_headers() {
     let constants = [
+        ("RULES", layout::RULES as usize),
+        ("FORMAT", layout::FORMAT as usize),
         ("IMAGE", layout::IMAGE),
         ("PROFILE", layout::PROFILE),
         ("SETTINGS", layout::SETTINGS),
@@ -38,4 +40,9 @@ fn constants_are_the_headers() {
         assert_eq!(defined(&format!("CHEUKDANE_{name}")), value, "{name}");
     }
     assert_eq!(layout::IMAGE, layout::WORD * layout::IMAGE_WORDS);
+}
+
+#[test]
+fn rules_are_the_headers() {
+    assert_eq!(calls::rules(), layout::RULES);
 }

@@ -3,7 +3,7 @@
 
 use library::both;
 use library::image::{self, Held, Powered};
-use library::layout::{BAND, IMAGE, IMAGE_WORDS, REPORT, SHOWN, WORD};
+use library::layout::{BAND, FORMAT, IMAGE, IMAGE_WORDS, REPORT, SHOWN, WORD};
 use library::tally::{times, Tally};
 use reference::generate::{any_event, any_state, plausible_events, spoiled_state, Rng};
 use reference::record::encode;
@@ -24,7 +24,7 @@ fn lend(bytes: &[u8], event: &Event) -> [u32; 4] {
     assert_eq!(played, given, "an event is the same in a log and outside one");
     let mut replayed = bytes.to_vec();
     let answer = both::replay(&mut replayed, &encode(event), 0);
-    assert_eq!(answer.number == 5, image::read(bytes).is_none(), "5 just for what is no image");
+    assert_eq!(answer.number == 5, image::read(bytes).is_none(), "5 exactly for what is no image");
     assert_eq!(replayed, played, "and in a log that is replayed");
     for address in [0x15, 0x16, 0x17, 0x18, 0x19, 0x1A, 0x1C] {
         both::register(bytes, address);
@@ -109,10 +109,10 @@ fn every_word_damaged() {
             }
         }
     }
-    met[0].met_just([0, 5, 7, 8, 9, 10, 11]);
-    met[1].met_just([0, 5, 7, 8, 9, 10, 11]);
-    met[2].met_just([0, 5]);
-    met[3].met_just([0, 5]);
+    met[0].met_exactly([0, 5, 7, 8, 9, 10, 11]);
+    met[1].met_exactly([0, 5, 7, 8, 9, 10, 11]);
+    met[2].met_exactly([0, 5]);
+    met[3].met_exactly([0, 5]);
 }
 
 #[test]
@@ -140,7 +140,7 @@ fn several_words_damaged() {
     }
 }
 
-/// "Word 0 is 0 before a power-on (then all other words are 0)".
+/// "Word 0 is 0 before a power-on, and then all other words are 0 too".
 #[test]
 fn off_with_a_word_that_is_not_zero() {
     for at in WORD..IMAGE {
@@ -150,12 +150,21 @@ fn off_with_a_word_that_is_not_zero() {
             assert_eq!(lend(&bytes, &Event::TakeFlags), [5; 4]);
         }
     }
-    for first in [2, 3, 256, 1 << 31, u32::MAX] {
-        assert_eq!(lend(&with_word(&[0; IMAGE], 0, first), &Event::TakeFlags), [5; 4]);
+}
+
+/// "An image of another format is 5", of a model that is on and of zeros.
+#[test]
+fn another_format() {
+    let on = image::of(&Held::On(run(4, 40)));
+    let near = (0..32).map(|bit| FORMAT ^ 1 << bit).chain([FORMAT + 1, FORMAT + 2, u32::MAX]);
+    for first in near.filter(|first| *first != 0) {
+        for bytes in [&on[..], &[0; IMAGE]] {
+            assert_eq!(lend(&with_word(bytes, 0, first), &Event::TakeFlags), [5; 4], "{first}");
+        }
     }
 }
 
-/// A model that may not hold what it does is an image where each word is
+/// A model that may not hold what it does is an image if each word is
 /// within its field's type: events are 5, reads answer.
 #[test]
 fn models_that_do_not_pass() {
@@ -170,7 +179,7 @@ fn models_that_do_not_pass() {
         assert_eq!(reported, read);
         reads.count(read);
     }
-    reads.met_just([0, 5]);
+    reads.met_exactly([0, 5]);
 }
 
 /// The power-on's cell code is a field of its own.

@@ -68,25 +68,25 @@ fn play_all(logs: impl Iterator<Item = Vec<u8>>) -> Tally {
 #[test]
 fn plausible_logs() {
     let logs = (0..times(50_000)).map(|seed| plausible_log(seed, 24));
-    play_all(logs).met_just([0, 5, 6, 7, 8, 9, 10, 11]);
+    play_all(logs).met_exactly([0, 5, 6, 7, 8, 9, 10, 11]);
 }
 
 #[test]
 fn long_logs() {
     let logs = (0..times(300)).map(|seed| plausible_log(!seed, 2_000));
-    play_all(logs).met_just([0, 5, 6, 7, 8, 9, 10, 11]);
+    play_all(logs).met_exactly([0, 5, 6, 7, 8, 9, 10, 11]);
 }
 
 #[test]
 fn damaged_logs() {
     let logs = (0..times(60_000)).map(|seed| damaged_log(seed + 1_000_000, 20));
-    play_all(logs).met_just(0..=11);
+    play_all(logs).met_exactly(0..=11);
 }
 
 #[test]
 fn logs_of_any_numbers() {
     let logs = (0..times(40_000)).map(|seed| any_log(seed, 12));
-    play_all(logs).met_just([0, 5, 6, 7, 8, 9, 10, 11]);
+    play_all(logs).met_exactly([0, 5, 6, 7, 8, 9, 10, 11]);
 }
 
 /// Plays one record somewhere in a log on the image of a model from outside.
@@ -121,7 +121,7 @@ fn single_records_on_any_model() {
         let event = sample_after(&mut rng, &powered);
         play_one(&mut rng, powered, &event, &mut tally);
     }
-    tally.met_just([0, 5, 7, 8, 9, 10, 11]);
+    tally.met_exactly([0, 5, 7, 8, 9, 10, 11]);
 }
 
 #[test]
@@ -133,7 +133,7 @@ fn single_records_on_models_that_do_not_pass() {
         let powered = Powered::new(0, 0, spoiled_state(&mut rng));
         play_one(&mut rng, powered, &event, &mut tally);
     }
-    tally.met_just([5]);
+    tally.met_exactly([5]);
 }
 
 /// An unreadable record is no event: 1-4 come before a model's own 5.
@@ -150,7 +150,7 @@ fn unreadable_records_on_models_that_do_not_pass() {
         let played = both::play(&mut bytes, log, 0, &mut [0xEE; SHOWN]);
         tally.count(played.number);
     }
-    tally.met_just([1, 2, 3, 4]);
+    tally.met_exactly([1, 2, 3, 4]);
 }
 
 /// Records that start at any byte of a log, be it inside another record.
@@ -165,7 +165,7 @@ fn every_place_of_a_log() {
             tally.count(both::play(&mut bytes, &log, place, &mut [0xEE; SHOWN]).number);
         }
     }
-    tally.met_just([0, 1, 2, 3, 4, 5, 7, 8, 9, 10, 11]);
+    tally.met_exactly([0, 1, 2, 3, 4, 5, 7, 8, 9, 10, 11]);
 }
 
 /// At the log's end and past it there is no record, and no byte changes.

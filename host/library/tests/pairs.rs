@@ -12,7 +12,7 @@ fn generated_pairs() {
         tally.count(both::compare(&first, &second).number);
         tally.count(both::compare(&second, &first).number);
     }
-    tally.met_just([0, 1, 2, 3, 4, 14]);
+    tally.met_exactly([0, 1, 2, 3, 4, 14]);
 }
 
 #[test]
@@ -26,7 +26,7 @@ fn pairs_of_damaged_logs() {
         tally.count(both::compare(&one, &one).number);
         tally.count(both::compare(&one, &any_log(seed, 2)).number);
     }
-    tally.met_just([0, 1, 2, 3, 4, 14]);
+    tally.met_exactly([0, 1, 2, 3, 4, 14]);
 }
 
 /// A log beside each of its starts: whole records are a start, others are 1.
@@ -45,7 +45,7 @@ fn a_log_and_each_of_its_starts() {
             tally.count(forth.number);
         }
     }
-    tally.met_just([0, 1]);
+    tally.met_exactly([0, 1]);
 }
 
 /// Each byte of a log changed in one of the two.
@@ -62,7 +62,7 @@ fn a_log_and_one_with_a_byte_changed() {
             tally.count(both::compare(&other, &log).number);
         }
     }
-    tally.met_just([1, 2, 3, 4, 14]);
+    tally.met_exactly([1, 2, 3, 4, 14]);
 }
 
 /// Both unreadable at one record: the first log's answer.

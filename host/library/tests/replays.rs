@@ -48,25 +48,25 @@ fn replay_all(logs: impl Iterator<Item = Vec<u8>>) -> Tally {
 #[test]
 fn plausible_logs() {
     let logs = (0..times(20_000)).map(|seed| plausible_log(seed, (seed % 70) as usize));
-    replay_all(logs).met_just([0]);
+    replay_all(logs).met_exactly([0]);
 }
 
 #[test]
 fn long_logs() {
     let logs = (0..times(300)).map(|seed| plausible_log(!seed, 2_000));
-    replay_all(logs).met_just([0]);
+    replay_all(logs).met_exactly([0]);
 }
 
 #[test]
 fn damaged_logs() {
     let logs = (0..times(40_000)).map(|seed| damaged_log(seed + 2_000_000, 40));
-    replay_all(logs).met_just(0..=4);
+    replay_all(logs).met_exactly(0..=4);
 }
 
 #[test]
 fn logs_of_any_numbers() {
     let logs = (0..times(20_000)).map(|seed| any_log(seed, 40));
-    replay_all(logs).met_just([0]);
+    replay_all(logs).met_exactly([0]);
 }
 
 /// Every place of a log, on models from outside, such as pass and such as
@@ -84,7 +84,7 @@ fn every_place_on_any_model() {
             assert_eq!(replayed(&spoiled, &log, place).1, spoiled);
         }
     }
-    tally.met_just(0..=4);
+    tally.met_exactly(0..=4);
 }
 
 /// At the log's end and past it no record is read, and no byte changes.

@@ -49,7 +49,7 @@ struct Played<'head> {
     kind: u32,
     answer: u32,
     image: &'head [u8],
-    /// What it showed, where it was accepted.
+    /// What it showed, if it was accepted.
     shown: Option<Vec<u32>>,
 }
 

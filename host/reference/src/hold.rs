@@ -78,8 +78,8 @@ fn settings_in_range(settings: &Settings) -> bool {
     Setting::ALL.into_iter().all(|setting| setting.range().takes(settings[setting]))
 }
 
-/// A stage's time is 0 where its limit is 0. Else it is short of the limit
-/// where the stage is the one held (at the limit, phase 7 is), and passes
+/// A stage's time is 0 if its limit is 0. Else it is short of the limit
+/// if the stage is the one held (at the limit, phase 7 is), and passes
 /// the limit by less than one gap elsewhere.
 fn time_in_range(state: &State, stage: Stage) -> bool {
     let time = state.cycle.times.of(stage);

@@ -1,8 +1,8 @@
 -- `holds` meets its contract: the first word's bytes, then those of the numbers.
-use mathlib.Core.Path.{_≡_}
+use mathlib.Core.Path.{_≡_, refl}
 use native.Mathlib.Omega.{arith}
 use lib.ListN.{length, take, length-take}
-use Rattle.c_image.proofs.Stores.{both-same}
+use Rattle.c_image.proofs.Stores.{holds-both}
 use borrow.Author.Needs.{needs}
 use Rattle.c_image.proofs.holds.Statement.{statement}
 use Rattle.c_image.proofs.holds.Tie as tie
@@ -16,7 +16,8 @@ slice-aggregate-same-2 c =
 returns : tie.Need-returns
 returns c =
     let a = c .before .before .before .before .before .before .before in
-    rw (c .same2 .ensures, c .before .before .before .same .ensures) (both-same (a .args .image .now) (a .args .t3) (a .args .first) (a .pre))
+    let begins = c .before .before .before .same in
+    holds-both (a .args .image .now) (a .args .t3) (a .args .first) (begins .result) (c .same2 .result) _ (a .pre) (begins .ensures) (c .same2 .ensures) refl
 
 pub holds-spec : {M : Type 1} → statement M
 holds-spec =

@@ -179,7 +179,7 @@ impl Walk {
         ]);
         let byte = match (address, rng.within(0, 9)) {
             (_, 0) => rng.pick(&[0, 255, 256, 257]),
-            // The band stays of interest where EN_TS and EN_JEITA do.
+            // The band stays of interest if EN_TS and EN_JEITA do.
             (0x19, 1..=6) => rng.within(0, 63) << 2 | 3,
             _ => rng.within(0, 255),
         };

@@ -1,0 +1,137 @@
+//! The header's names for the paper's numbers are the reference's numbers, and
+//! there are no others: a name that is missing, added or misnumbered fails.
+
+use reference::generate::plausible_events;
+use reference::state::phase;
+use reference::{edges, event, Event, Refusal, Sample, Setting};
+
+const HEADER: &str = include_str!("../../../include/cheukdane.h");
+
+/// The header's enumerators whose names start with `CHEUKDANE_` and `start`.
+fn named(start: &str) -> Vec<(String, u32)> {
+    let named = HEADER.lines().filter_map(|line| {
+        let rest = line.trim().strip_prefix("CHEUKDANE_")?.strip_prefix(start)?;
+        let (name, value) = rest.split_once(" = ")?;
+        let digits: String = value.chars().take_while(char::is_ascii_digit).collect();
+        Some((name.to_string(), digits.parse().expect("a number")))
+    });
+    named.collect()
+}
+
+/// EndsInside -> ENDS_INSIDE.
+fn upper(name: &str) -> String {
+    let mut upper = String::new();
+    for letter in name.chars() {
+        if letter.is_ascii_uppercase() && !upper.is_empty() {
+            upper.push('_');
+        }
+        upper.push(letter.to_ascii_uppercase());
+    }
+    upper
+}
+
+fn are(start: &str, wanted: &[(&str, u32)]) {
+    let wanted: Vec<(String, u32)> =
+        wanted.iter().map(|(name, n)| (name.to_string(), *n)).collect();
+    assert_eq!(named(start), wanted, "CHEUKDANE_{start}..");
+}
+
+#[test]
+fn refusals() {
+    let wanted = [
+        ("ENDS_INSIDE", Refusal::EndsInside),
+        ("ZERO_GROUP", Refusal::NotShortest),
+        ("TOO_LARGE", Refusal::TooLarge),
+        ("UNKNOWN_KIND", Refusal::UnknownKind),
+        ("OUT_OF_RANGE", Refusal::OutOfRange),
+        ("NOT_POWERED", Refusal::NotPowered),
+        ("STAMP_AHEAD", Refusal::StampAhead),
+        ("UNKNOWN_SETTING", Refusal::UnknownSetting),
+        ("BAD_VALUE", Refusal::SettingValue),
+        ("UNKNOWN_ADDRESS", Refusal::UnknownAddress),
+        ("BAD_FREQUENCY", Refusal::Frequency),
+        ("NO_ROOM", Refusal::NoRoom),
+        ("INPUT_TOO_LONG", Refusal::InputTooLong),
+        ("LOGS_PART", Refusal::LogsPart),
+    ];
+    are("REFUSED_", &wanted.map(|(name, refusal)| (name, refusal.number())));
+    are("ACCEPTED", &[("", 0)]);
+}
+
+#[test]
+fn kinds() {
+    let of_power_on = plausible_events(1, 1).remove(0);
+    let wanted = [
+        ("POWER_ON", of_power_on),
+        ("SET", Event::Set { number: 1, value: 2_400 }),
+        ("WRITE", Event::Write { address: 0x15, byte: 0 }),
+        ("TAKE_FLAGS", Event::TakeFlags),
+        ("OBSERVE", Event::Observe(Sample::at_power_on(0))),
+        ("SERVICE", Event::Service),
+        ("RESET", Event::Reset),
+    ];
+    are("KIND_", &wanted.map(|(name, event)| (name, event.kind().into())));
+}
+
+#[test]
+fn settings() {
+    let wanted: Vec<(String, u32)> =
+        Setting::ALL.iter().map(|one| (upper(&format!("{one:?}")), one.number())).collect();
+    assert_eq!(named("SETTING_"), wanted);
+}
+
+#[test]
+fn phases_bands_and_stat() {
+    let phases = [
+        ("IDLE", phase::IDLE),
+        ("TRICKLE", phase::TRICKLE),
+        ("PRECHARGE", phase::PRECHARGE),
+        ("FAST", phase::FAST),
+        ("TAPER", phase::TAPER),
+        ("DONE", phase::DONE),
+        ("SUSPENDED", phase::SUSPENDED),
+        ("FAULT", phase::FAULT),
+    ];
+    are("PHASE_", &phases);
+    are("BAND_", &[("NORMAL", 0), ("COLD", 1), ("HOT", 2), ("COOL", 3), ("WARM", 4)]);
+    are("STAT_", &[("LOW", 0), ("BLINKING", 1), ("HIGH", 2)]);
+}
+
+#[test]
+fn flags_and_sample_bits() {
+    let flags = [
+        ("INPUT_GOOD", edges::INPUT_GOOD),
+        ("INPUT_LOST", edges::INPUT_LOST),
+        ("IINDPM", edges::IINDPM_BEGINS),
+        ("VINDPM", edges::VINDPM_BEGINS),
+        ("THERMAL_REGULATION", edges::THERMAL_BEGINS),
+        ("WATCHDOG", edges::WATCHDOG_EXPIRED),
+        ("PHASE", edges::PHASE_CHANGED),
+        ("BAND", edges::BAND_CHANGED),
+        ("VIN_OVER", edges::VIN_OVER),
+        ("THERMAL_SHUTDOWN", edges::SHUTDOWN_BEGINS),
+        ("BATTERY_OVER", edges::BATTERY_OVER),
+        ("LIMIT", edges::LIMIT_REACHED),
+    ];
+    are("FLAG_", &flags);
+    let bits = [
+        ("CE_HIGH", event::CE_HIGH),
+        ("ILIM_HIZ_HIGH", event::HIZ_PIN),
+        ("IINDPM", event::IINDPM),
+        ("VINDPM", event::VINDPM),
+        ("THERMAL_REGULATION", event::THERMAL),
+        ("THERMAL_SHUTDOWN", event::SHUTDOWN),
+    ];
+    are("BIT_", &bits);
+}
+
+/// The words of what is shown and of a report, in the order that the header
+/// says in words above each.
+#[test]
+fn words_of_answers() {
+    let both = ["PHASE", "CURRENT", "VOLTAGE", "LIMIT"];
+    let shown = ["PULSE", "FLAGS", "HANDED"];
+    let report = ["FLAGS", "STAT"];
+    are("SHOWN_", &both.into_iter().chain(shown).zip(0..).collect::<Vec<_>>());
+    are("REPORT_", &both.into_iter().chain(report).zip(0..).collect::<Vec<_>>());
+}
