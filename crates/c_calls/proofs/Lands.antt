@@ -16,7 +16,7 @@ use Rattle.state_parts.specs.declared.flags.Flags.{Flags}
 use Rattle.state_parts.specs.declared.state.State.{State}
 use Rattle.state_parts.specs.declared.state.Model.{Model}
 use Rattle.state_parts.specs.declared.state.Model.the-variants.{On}
-use Rattle.step_kinds.specs.Plain.{steppedTold}
+use Rattle.step_kinds.specs.Answers.{steppedTold}
 use Rattle.step_kinds.specs.declared.answer.Stepped.{Stepped}
 use Rattle.step_kinds.specs.declared.answer.Stepped.the-variants.{Accepted, Refused}
 use Rattle.c_words.specs.Words.{bytesOf}

@@ -16,7 +16,7 @@ use Rattle.log_event.specs.Kinds.{kinds}
 use Rattle.log_event.specs.declared.Event.{Event}
 use Rattle.log_record.specs.Records.{Met, met, end, recordAt, spellEvent}
 use Rattle.log_record.specs.Records as log
-use Rattle.step_kinds.specs.Plain.{Outcome}
+use Rattle.step_kinds.specs.Answers.{Outcome}
 use Rattle.step_event.specs.Steps.{stepOf}
 use Rattle.c_event.specs.Given.{givenOf}
 use Rattle.c_image.specs.Images.{modelIn, isLong}

@@ -19,7 +19,7 @@ use Rattle.log_record.specs.Records.{readTold, recordAt}
 use Rattle.log_record.specs.declared.answer.Read.{Read}
 use Rattle.log_record.specs.declared.answer.Read.the-variants as read
 use Rattle.log_record.proofs.answer.Read as read-type
-use Rattle.step_kinds.specs.Plain.{Outcome}
+use Rattle.step_kinds.specs.Answers.{Outcome}
 use Rattle.step_event.specs.Steps.{stepOf}
 use Rattle.c_image.specs.Images.{isLong, savedIn}
 use Rattle.c_event.specs.Given.{givenTold, givenOf}

@@ -11,7 +11,7 @@ use Rattle.state_parts.specs.Edges.{flagsNumber}
 use Rattle.state_parts.specs.declared.flags.Flags.{Flags}
 use Rattle.state_parts.specs.declared.state.Model.{Model}
 use Rattle.report_state.specs.Lines.{lineOf}
-use Rattle.step_kinds.specs.Plain.{Outcome}
+use Rattle.step_kinds.specs.Answers.{Outcome}
 use Rattle.c_words.specs.Words.{bytesOf}
 use Rattle.c_image.specs.Images.{imageOf, modelIn}
 use Rattle.c_calls.specs.declared.answer.Answer.{Answer}

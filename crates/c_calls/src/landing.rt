@@ -1,7 +1,7 @@
 // The model that a call starts with, and what an event leaves in the image and the answer buffer.
 ghost use mathlib.Core.Path.{_≡_};
 ghost use lib.ListN.{length};
-ghost use Rattle.step_kinds.specs.Plain.{steppedTold};
+ghost use Rattle.step_kinds.specs.Answers.{steppedTold};
 ghost use Rattle.c_calls.specs.Landing.{both, shownNumbers, landOf, readyTold, readyOf};
 use base::choice;
 use base::refusal;

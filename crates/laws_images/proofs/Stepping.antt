@@ -6,7 +6,7 @@ use lib.Dec.{leb, ltb, eqb}
 use borrow.Author.Tests.{eqb-true, eqb-false}
 use Rattle.base.specs.Pick.{pick}
 use Rattle.base.specs.Stamps.{elapsedOf}
-use Rattle.base.specs.Told as told
+use Rattle.base.specs.Told.{Told, accepted, refused}
 use Rattle.state_parts.specs.declared.flags.Flags.{Flags}
 use Rattle.state_parts.specs.declared.profile.Profile.{Profile}
 use Rattle.state_parts.specs.declared.sample.Sample.{Sample}
@@ -14,21 +14,30 @@ use Rattle.state_parts.specs.declared.state.State.{State}
 use Rattle.state_parts.specs.declared.state.Model.{Model}
 use Rattle.state_parts.specs.declared.state.Model.the-variants.{Off, On}
 use Rattle.log_event.specs.declared.Event.{Event}
-use Rattle.log_event.specs.declared.Event.the-variants.{PowerOn, Set, Write, TakeFlags, Observe, Service, Reset}
+use Rattle.log_event.specs.declared.Event.the-variants as event
 use Rattle.log_record.specs.Promises.{Spellable}
 use Rattle.state_fields.specs.Rows.{frequencyOk}
 use Rattle.state_start.specs.Values.{startOf}
-use Rattle.state_settings.specs.Numbered.{storeOf}
 use Rattle.state_settings.specs.Ranges.{knownSetting, mayHold}
-use Rattle.state_valid.specs.Holds.{profileOk, sampleOk, stateOk}
+use Rattle.state_valid.specs.Holds.{stateOk}
 use Rattle.state_registers.specs.Reads.{knownAddress}
 use Rattle.state_registers.specs.Writes.{writtenTo, writeOf}
 use Rattle.state_registers.specs.Resets.{resetOf}
 use Rattle.settle_all.specs.Settle.{forcedOf, settledOf, settleOf}
-use Rattle.step_kinds.specs.Finish.{withFlags, finishOf}
-use Rattle.step_kinds.specs.Plain.{Outcome, refusedWith, withSettings, serviced, afterWrite, poweredOf, powerOnOf, setOf, writeEventOf, takeFlagsOf, serviceOf, resetEventOf}
+use Rattle.state_parts.specs.With.{withFlags}
+use Rattle.step_turns.specs.Ranges.{profileInRange, sampleInRange}
+use Rattle.step_turns.specs.Turns.{heldProfile, heldSample, turnOf}
+use Rattle.step_turns.specs.declared.later.Later.{Later}
+use Rattle.step_turns.specs.declared.later.Later.the-variants.{Set, Write, TakeFlags, Observe, Service, Reset}
+use Rattle.step_turns.specs.declared.turn.Turn.{Turn}
+use Rattle.step_turns.specs.declared.turn.Turn.the-variants.{Opens, Follows, OpensOutside, FollowsOutside}
+use Rattle.step_flags.specs.declared.between.Seen.{Seen}
+use Rattle.step_kinds.specs.Changes.{Changed}
+use Rattle.step_kinds.specs.Finish.{observing, finishOf}
+use Rattle.step_kinds.specs.Plain.{afterWrite, openedAs, setOf, writtenOf}
+use Rattle.step_kinds.specs.declared.change.Way.{Way}
 use Rattle.step_event.specs.Clock.{observedOf}
-use Rattle.step_event.specs.Steps.{observeOf, movedOf, firstOf, modelOk, stepOf}
+use Rattle.step_event.specs.Steps.{observeOf, followedOf, movedOf, firstOf, changeOf, modelOk, seenOn, closedBy, turnedBy, stepOf}
 use Rattle.step_event.proofs.Keeps.{refused-leaves, accepted-passes}
 use Rattle.c_list.specs.Numbers.{stateNumbers}
 use Rattle.c_image.specs.Promises.{Storable}
@@ -40,79 +49,118 @@ abbrev StampedIn : Model → Type 0
 StampedIn Off = Unit {0}
 StampedIn (On s) = Stamped s
 
+-- a change of a state whose stamps have 32 bits, to one of which the same is true
+abbrev StampedBy : Told Changed → Type 0
+StampedBy (accepted c) = Stamped (c .state)
+StampedBy (refused n) = Unit {0}
+
 -- a test chooses between two that are
-chosen : (t : Bool) (a b : Outcome) → StampedIn (a .model) → StampedIn (b .model) → StampedIn (pick t a b .model)
+chosen : (t : Bool) (a b : Told Changed) → StampedBy a → StampedBy b → StampedBy (pick t a b)
 chosen true a b h k = h
 chosen false a b h k = k
 
+-- what a turn brings has stamps of 32 bits
+abbrev LaterStamped : Later → Type 0
+LaterStamped (Set number value) = Unit {0}
+LaterStamped (Write address byte) = Unit {0}
+LaterStamped TakeFlags = Unit {0}
+LaterStamped (Observe x) = x .stamp < 2 ^ 32
+LaterStamped Service = Unit {0}
+LaterStamped Reset = Unit {0}
+
+abbrev TurnStamped : Turn → Type 0
+TurnStamped (Opens p) = p .stamp < 2 ^ 32
+TurnStamped (Follows e) = LaterStamped e
+TurnStamped OpensOutside = Unit {0}
+TurnStamped FollowsOutside = Unit {0}
+
+in-turn : (t : Bool) (a b : Turn) → TurnStamped a → TurnStamped b → TurnStamped (pick t a b)
+in-turn true a b h k = h
+in-turn false a b h k = k
+
+spelled : (e : Event) → Spellable e → TurnStamped (turnOf e)
+unfolding turnOf
+spelled (event.PowerOn p) k = in-turn (profileInRange p) (Opens (heldProfile p)) OpensOutside (k .1 .1 .1 .1 .0) tt
+spelled (event.Set number value) k = tt
+spelled (event.Write address byte) k = tt
+spelled event.TakeFlags k = tt
+spelled (event.Observe x) k = in-turn (sampleInRange x) (Follows (Observe (heldSample x))) FollowsOutside (k .0) tt
+spelled event.Service k = tt
+spelled event.Reset k = tt
+
 -- settling, flags and what a write leaves move no stamp
 settled : (s : State) (observed : Bool) (f : Flags) → Stamped s → Stamped (withFlags (settleOf s observed) f)
-unfolding withFlags settleOf settledOf forcedOf
+unfolding settleOf settledOf forcedOf
 settled s observed f h = h
 
-finished : (before s : State) (observed : Bool) → Stamped s → Stamped (finishOf before s observed .state)
+finished : (before : Seen) (s : State) (way : Way) → Stamped s → StampedIn (finishOf before s way .model)
 unfolding finishOf
-finished before s observed h = settled s observed _ h
+finished before s way h = settled s (observing way) (s .flags) h
 
 written : (s : State) (address byte : ℕ) → Stamped s → Stamped (writtenTo s address byte)
 unfolding writtenTo
 written s address byte h = h
 
-powered : (m : Model) (p : Profile) → StampedIn m → p .stamp < 2 ^ 32 → StampedIn (powerOnOf m p .model)
-unfolding powerOnOf poweredOf startOf
-powered m p h k = chosen (not (profileOk p)) _ _ h (settled (startOf p) false _ (k, k))
+powered : (p : Profile) → p .stamp < 2 ^ 32 → StampedBy (openedAs p)
+unfolding startOf
+powered p k = (k, k)
 
 module _ (s : State) (h : Stamped s) where
-  sets : (number value : ℕ) → StampedIn (setOf s number value .model)
+  sets : (number value : ℕ) → StampedBy (setOf s number value)
   unfolding setOf
-  sets number value =
-      chosen (not (knownSetting number)) _ _ h
-      (chosen (not (mayHold number value)) _ _ h
-      (finished s (withSettings s (storeOf (s .settings) number value)) false h))
+  sets number value = chosen (not (knownSetting number)) _ _ tt (chosen (not (mayHold number value)) _ _ tt h)
 
-  writes : (address byte : ℕ) → StampedIn (writeEventOf s address byte .model)
-  unfolding writeEventOf writeOf
+  writes : (address byte : ℕ) → StampedBy (writtenOf s address byte)
+  unfolding writtenOf writeOf
   writes address byte = by (not (knownAddress address)) (not (leb byte 255)) (eqb address 0x16 && not (frequencyOk byte))
     where
       by : (unknown large bad : Bool)
-          → StampedIn (afterWrite s (pick unknown (told.refused 10) (pick large (told.refused 5) (pick bad (told.refused 11) (told.accepted (writtenTo s address byte))))) .model)
-      by true large bad = h
-      by false true bad = h
-      by false false true = h
-      by false false false = finished s (writtenTo s address byte) false (written s address byte h)
+          → StampedBy (afterWrite (pick unknown (refused 10) (pick large (refused 5) (pick bad (refused 11) (accepted (writtenTo s address byte))))))
+      by true large bad = tt
+      by false true bad = tt
+      by false false true = tt
+      by false false false = written s address byte h
 
-  observes : (x : Sample) → x .stamp < 2 ^ 32 → StampedIn (observeOf s x .model)
+  observes : (x : Sample) → x .stamp < 2 ^ 32 → StampedBy (observeOf s x)
   unfolding observeOf observedOf
-  observes x k =
-      chosen (not (sampleOk x)) _ _ h
-      (chosen (ltb 3600000 (elapsedOf (s .sample .stamp) (x .stamp))) _ _ h
-      (finished s (observedOf s x) true (h .0, k)))
+  observes x k = chosen (ltb 3600000 (elapsedOf (s .sample .stamp) (x .stamp))) _ _ tt (h .0, k)
 
-  moves : (e : Event) → Spellable e → StampedIn (movedOf s e .model)
-  unfolding movedOf takeFlagsOf withFlags serviceOf resetEventOf resetOf
-  moves (PowerOn p) k = powered (On s) p h (k .1 .1 .1 .1 .0)
-  moves (Set number value) k = sets number value
-  moves (Write address byte) k = writes address byte
-  moves TakeFlags k = finished s s false h
-  moves (Observe x) k = observes x (k .0)
-  moves Service k = finished s (serviced s) false h
-  moves Reset k = finished s (resetOf s) false h
+  follows : (e : Later) → LaterStamped e → StampedBy (followedOf s e)
+  unfolding followedOf resetOf
+  follows (Set number value) k = sets number value
+  follows (Write address byte) k = writes address byte
+  follows TakeFlags k = h
+  follows (Observe x) k = observes x k
+  follows Service k = h
+  follows Reset k = h
 
-first : (e : Event) → Spellable e → StampedIn (firstOf e .model)
+  moves : (t : Turn) → TurnStamped t → StampedBy (movedOf s t)
+  unfolding movedOf
+  moves (Opens p) k = powered p k
+  moves (Follows e) k = follows e k
+  moves OpensOutside k = tt
+  moves FollowsOutside k = tt
+
+first : (t : Turn) → TurnStamped t → StampedBy (firstOf t)
 unfolding firstOf
-first (PowerOn p) k = powered Off p tt (k .1 .1 .1 .1 .0)
-first (Set number value) k = tt
-first (Write address byte) k = tt
-first TakeFlags k = tt
-first (Observe x) k = tt
-first Service k = tt
-first Reset k = tt
+first (Opens p) k = powered p k
+first (Follows e) k = tt
+first OpensOutside k = tt
+first FollowsOutside k = tt
+
+changes : (m : Model) (t : Turn) → StampedIn m → TurnStamped t → StampedBy (changeOf m t)
+unfolding changeOf
+changes Off t h k = first t k
+changes (On s) t h k = chosen (stateOk s) (movedOf s t) (refused 5) (moves s h t k) tt
+
+closed : (m : Model) (c : Told Changed) → StampedIn m → StampedBy c → StampedIn (closedBy m c .model)
+closed m (accepted c) h k = finished (seenOn m) (c .state) (c .way) k
+closed m (refused n) h k = h
 
 -- the stamps after an event are its own or those before it
 stamps : (m : Model) (e : Event) → StampedIn m → Spellable e → StampedIn (stepOf m e .model)
-unfolding stepOf
-stamps Off e h k = first e k
-stamps (On s) e h k = chosen (stateOk s) (movedOf s e) (refusedWith 5 (On s)) (moves s h e k) h
+unfolding stepOf turnedBy
+stamps m e h k = closed m (changeOf m (turnOf e)) h (changes m (turnOf e) h (spelled e k))
 
 stamped : (m : Model) → Storable m → StampedIn m
 unfolding stateNumbers

@@ -25,7 +25,7 @@ use Rattle.report_state.specs.Stats.{statOf}
 use Rattle.state_registers.specs.Reads as reads
 use Rattle.state_registers.specs.Writes.{writeTold, writeOf}
 use Rattle.state_registers.specs.Resets.{resetOf}
-use Rattle.step_kinds.specs.Plain.{steppedTold}
+use Rattle.step_kinds.specs.Answers.{steppedTold}
 use Rattle.step_event.specs.Steps.{stepOf}
 use Rattle.step_event.specs.Walks.{walkedTold, walkOf, startWalk}
 use Rattle.step_event.specs.Pages.{pageTold, pageOf}

@@ -5,9 +5,9 @@ use Rattle.settle_bands.specs.Thresholds.{bandOf}
 use Rattle.base.specs.Units.{inPack, belowShare}
 use Rattle.step_event.specs.Clock.{observedOf, countedOf, clearedIf, timesOf, unitsOf}
 use Rattle.step_event.specs.Pages.{wholeOf, pageOf}
-use Rattle.step_event.specs.Steps.{stepOf, firstOf, movedOf, observeOf}
+use Rattle.step_event.specs.Steps.{stepOf, turnedBy, changeOf, firstOf, movedOf, followedOf, observeOf, seenOn}
 use Rattle.step_event.specs.Walks.{startWalk, walkOf, metBy}
-use Rattle.step_flags.specs.Edges.{edgesOf, seenOf, expiresOf, phaseChanges, bandChanges, reachesOf}
+use Rattle.step_flags.specs.Edges.{edgesOf, seenOf}
 use Rattle.step_flags.specs.Expiry.{expiredOf}
 use Rattle.log_event.specs.Events.{eventOf}
 use Rattle.log_event.specs.Ibat.{signedOf}
@@ -19,8 +19,10 @@ use Rattle.settle_levels.specs.Comparators.{latchesOf, shortOf, lowOf, packOver
 use Rattle.settle_levels.specs.Voltage.{chargeVoltageOf, belowRecharge, taperOf}
 use Rattle.report_text.specs.Decimal.{decimal, decimalBy}
 use Rattle.report_text.specs.Text.{endText, lineText, headedText}
-use Rattle.step_kinds.specs.Finish.{finishOf, withFlags}
-use Rattle.step_kinds.specs.Plain.{powerOnOf, setOf, writeEventOf, takeFlagsOf, serviceOf, resetEventOf, poweredOf}
+use Rattle.step_kinds.specs.Finish.{finishOf}
+use Rattle.step_kinds.specs.Plain.{setOf, writtenOf}
+use Rattle.step_turns.specs.Ranges.{profileInRange, sampleInRange}
+use Rattle.step_turns.specs.Turns.{turnOf}
 use Rattle.log_number.specs.Number.{numberAt, readNumber, readGroups, spell, groups}
 use Rattle.state_parts.specs.Edges.{merged, pulseOf, flagsNumber}
 use Rattle.settle_phases.specs.Cycles.{cycleOf}
@@ -45,5 +47,5 @@ use Rattle.state_start.specs.Values.{startOf, startSettings, startVreg, startIc
 use Rattle.state_valid.specs.Holds.{stateOk, profileOk, registersOk, cycleOk, watchdogOk, sampleOk}
 
 pub every-row : EveryRow
-unfolding rows linesText wholeOf endText headedText spellEvent numberAt lineText numbersOf pageOf startWalk stepOf spellItems readNumber decimal walkOf heldOf reportOf firstOf stateOk movedOf readGroups decimalBy recordAt settingNumbers fastCurrent chargeVoltageOf inputLimitOf powerOnOf profileOk settingsOk registersOk cycleOk watchdogOk sampleOk setOf writeEventOf takeFlagsOf observeOf serviceOf resetEventOf spell readRecord chargeClampOf shareOf baseOf inPack cutOf poweredOf mayHold finishOf storeOf writeOf withFlags observedOf resetOf groups metBy packClampOf settleOf startOf shownOf rangeOf edgesOf merged pulseOf writtenTo countedOf expiredOf clearedIf timesOf unitsOf startSettings restored lineOf readItems forcedOf latchesOf bandOf settledOf testsOf fieldsAt ranges seenOf expiresOf phaseChanges bandChanges reachesOf recounted placed takenOf byteAt regulatedOf startVreg startIchg startVsysmin flagsNumber eventOf faultOf shortOf lowOf packOverOf cycleOf phaseOf permittedOf suspendsOf belowRecharge taperOf endingOf fields reachedOf signedOf belowShare clearsOf endsOf judgedOf restartsOf
+unfolding rows linesText wholeOf endText headedText spellEvent numberAt lineText numbersOf pageOf startWalk stepOf spellItems readNumber decimal walkOf heldOf reportOf firstOf stateOk movedOf readGroups decimalBy recordAt settingNumbers fastCurrent chargeVoltageOf inputLimitOf profileOk settingsOk registersOk cycleOk watchdogOk sampleOk setOf observeOf spell readRecord chargeClampOf shareOf baseOf inPack cutOf mayHold finishOf storeOf writeOf observedOf resetOf groups metBy packClampOf settleOf startOf shownOf rangeOf edgesOf merged pulseOf writtenTo countedOf expiredOf clearedIf timesOf unitsOf startSettings restored lineOf readItems forcedOf latchesOf bandOf settledOf testsOf fieldsAt ranges seenOf recounted placed takenOf byteAt regulatedOf startVreg startIchg startVsysmin flagsNumber eventOf faultOf shortOf lowOf packOverOf cycleOf phaseOf permittedOf suspendsOf belowRecharge taperOf endingOf fields reachedOf signedOf belowShare clearsOf endsOf judgedOf restartsOf turnedBy changeOf followedOf writtenOf turnOf profileInRange sampleInRange seenOn
 every-row = (refl, (refl, (refl, (refl, (refl, (refl, (refl, (refl, (refl, (refl, tt))))))))))

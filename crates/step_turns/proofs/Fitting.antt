@@ -23,18 +23,18 @@ sample-held x = refl
 
 opens-by : (p : SpelledProfile) (b : Bool) → profileOk (heldProfile p) ≡ b → TurnFits (pick b (Opens (heldProfile p)) OpensOutside)
 opens-by p true e = e
-opens-by p false e = tt
+opens-by p false e = refl
 
 observes-by : (x : SpelledSample) (b : Bool) → sampleOk (heldSample x) ≡ b → TurnFits (pick b (Follows (Observe (heldSample x))) FollowsOutside)
 observes-by x true e = e
-observes-by x false e = tt
+observes-by x false e = refl
 
 pub every-turn-fits : EveryTurnFits
 unfolding turnOf
 every-turn-fits (event.PowerOn p) = opens-by p (profileInRange p) (profile-held p)
-every-turn-fits (event.Set number value) = tt
-every-turn-fits (event.Write address byte) = tt
-every-turn-fits event.TakeFlags = tt
+every-turn-fits (event.Set number value) = refl
+every-turn-fits (event.Write address byte) = refl
+every-turn-fits event.TakeFlags = refl
 every-turn-fits (event.Observe x) = observes-by x (sampleInRange x) (sample-held x)
-every-turn-fits event.Service = tt
-every-turn-fits event.Reset = tt
+every-turn-fits event.Service = refl
+every-turn-fits event.Reset = refl
