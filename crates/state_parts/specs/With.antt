@@ -1,0 +1,107 @@
+-- A state with one part changed, and every other as it was.
+use Rattle.state_parts.specs.declared.cycle.Cycle.{Cycle}
+use Rattle.state_parts.specs.declared.flags.Flags.{Flags}
+use Rattle.state_parts.specs.declared.latches.Latches.{Latches}
+use Rattle.state_parts.specs.declared.registers.Registers.{Registers}
+use Rattle.state_parts.specs.declared.sample.Sample.{Sample}
+use Rattle.state_parts.specs.declared.settings.Settings.{Settings}
+use Rattle.state_parts.specs.declared.state.State.{State}
+use Rattle.state_parts.specs.declared.watchdog.Watchdog.{Watchdog}
+
+abbrev pub withSettings : State → Settings → State
+withSettings s t = record {
+  profile = s .profile;
+  settings = t;
+  registers = s .registers;
+  latches = s .latches;
+  cycle = s .cycle;
+  watchdog = s .watchdog;
+  sample = s .sample;
+  phase = s .phase;
+  band = s .band;
+  flags = s .flags;
+}
+
+abbrev pub withRegisters : State → Registers → State
+withRegisters s g = record {
+  profile = s .profile;
+  settings = s .settings;
+  registers = g;
+  latches = s .latches;
+  cycle = s .cycle;
+  watchdog = s .watchdog;
+  sample = s .sample;
+  phase = s .phase;
+  band = s .band;
+  flags = s .flags;
+}
+
+abbrev pub withLatches : State → Latches → State
+withLatches s k = record {
+  profile = s .profile;
+  settings = s .settings;
+  registers = s .registers;
+  latches = k;
+  cycle = s .cycle;
+  watchdog = s .watchdog;
+  sample = s .sample;
+  phase = s .phase;
+  band = s .band;
+  flags = s .flags;
+}
+
+abbrev pub withCycle : State → Cycle → State
+withCycle s c = record {
+  profile = s .profile;
+  settings = s .settings;
+  registers = s .registers;
+  latches = s .latches;
+  cycle = c;
+  watchdog = s .watchdog;
+  sample = s .sample;
+  phase = s .phase;
+  band = s .band;
+  flags = s .flags;
+}
+
+abbrev pub withWatchdog : State → Watchdog → State
+withWatchdog s w = record {
+  profile = s .profile;
+  settings = s .settings;
+  registers = s .registers;
+  latches = s .latches;
+  cycle = s .cycle;
+  watchdog = w;
+  sample = s .sample;
+  phase = s .phase;
+  band = s .band;
+  flags = s .flags;
+}
+
+abbrev pub withSample : State → Sample → State
+withSample s x = record {
+  profile = s .profile;
+  settings = s .settings;
+  registers = s .registers;
+  latches = s .latches;
+  cycle = s .cycle;
+  watchdog = s .watchdog;
+  sample = x;
+  phase = s .phase;
+  band = s .band;
+  flags = s .flags;
+}
+
+abbrev pub withFlags : State → Flags → State
+withFlags s f = record {
+  profile = s .profile;
+  settings = s .settings;
+  registers = s .registers;
+  latches = s .latches;
+  cycle = s .cycle;
+  watchdog = s .watchdog;
+  sample = s .sample;
+  phase = s .phase;
+  band = s .band;
+  flags = f;
+}
