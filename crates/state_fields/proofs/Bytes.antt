@@ -6,10 +6,14 @@ use mathlib.Core.List.{List, [], _∷_}
 use native.Mathlib.Nat.{mod-lt, mod-eq-of-lt}
 use native.Mathlib.Omega.{arith}
 use borrow.Author.Needs.{needs}
+use borrow.Author.Tests.{eqb-true}
+use lib.Dec.{eqb}
 use lib.Pow.{pow-pos}
 use Rattle.base.specs.Pick.{pick}
-use Rattle.base.proofs.Span.{span}
-use Rattle.state_fields.specs.Rows.{Access, reserved, readOnly, readWrite, counted, Field, fields, digitOf, fieldsAt, together, shownPart, shownOf, takenPart, takenOf, resetByte}
+use Rattle.base.proofs.Span.{span, tested, allOf}
+use Rattle.state_parts.specs.declared.registers.Registers.{Registers}
+use Rattle.state_fields.specs.Held.{storedAt, fieldOf}
+use Rattle.state_fields.specs.Rows.{Access, reserved, readOnly, readWrite, counted, Field, fields, digitOf, fieldsAt, together, shownPart, shownOf, takenPart, takenOf, resetByte, rowsWith}
 use Rattle.state_fields.proofs.Stacks.{Stacked, Each, whole, below, digits}
 
 -- the rows of each of the eight addresses fill its byte, and none overlaps another
@@ -18,6 +22,14 @@ unfolding fieldsAt fields
 stacks a h k =
     span (λ (n : ℕ). Stacked 8 (fieldsAt n)) 0x15 8 a
     (search needs, (search needs, (search needs, (search needs, (search needs, (search needs, (search needs, (search needs, tt)))))))) h (omega arith)
+
+-- every bit of the eight registers has exactly one row
+pub one-row : (a bit : ℕ) → 0x15 ≤ a → a ≤ 0x1C → bit < 8 → rowsWith fields a bit ≡ 1
+unfolding fields
+one-row a bit h k l =
+    let test : ℕ → ℕ → Bool = λ n m. eqb (rowsWith fields n m) 1 in
+    eqb-true (rowsWith fields a bit) 1
+    (tested (test a) 0 8 bit (tested (λ (n : ℕ). allOf (test n) 0 8) 0x15 8 a refl h (omega arith)) (omega arith) l)
 
 module _ (count : Bool) (held written : ℕ) where
   abbrev digit : Field → ℕ
@@ -112,3 +124,7 @@ shown-byte a held h k = subst (λ (n : ℕ). n < 256) (shown-taken a held) (take
 pub resets : (resetByte 0x15 ≡ 0x00) × (resetByte 0x16 ≡ 0xE1) × (resetByte 0x17 ≡ 0xAA) × (resetByte 0x18 ≡ 0x95) × (resetByte 0x19 ≡ 0xD7) × (resetByte 0x1A ≡ 0x40)
 unfolding resetByte fieldsAt fields
 resets = (refl, refl, refl, refl, refl, refl)
+
+-- a field's value is below what its width holds
+pub field-mod : (f : Field) (g : Registers) → fieldOf f g % 2 ^ f .width ≡ fieldOf f g
+field-mod f g = mod-eq-of-lt (mod-lt (storedAt g (f .address) / 2 ^ f .low) (pow-pos (f .width)))

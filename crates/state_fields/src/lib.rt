@@ -3,6 +3,10 @@ ghost use mathlib.Core.Path.{_≡_};
 ghost use Rattle.state_fields.specs.Rows.{shownOf, takenOf, frequencyOk};
 use base::choice;
 
+pub mod digits;
+pub mod held;
+pub mod named;
+
 // The byte that stands at an address after a write; `count` says that a written cell count is taken.
 pub fn taken(count: bool, address: u32, held: u8, written: u8) -> u8
     ensures { λ r. ⌜ r ≡ takenOf count address held written ⌝ }
@@ -32,5 +36,6 @@ pub fn shown(address: u32, held: u8) -> u8
 pub fn frequency_ok(byte: u8) -> bool
     ensures { λ r. ⌜ r ≡ frequencyOk byte ⌝ }
 {
-    (1 <= byte % 8) & (byte % 8 <= 6)
+    let code = digits::fsw(byte);
+    (1 <= code) & (code <= 6)
 }
