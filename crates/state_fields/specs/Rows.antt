@@ -4,6 +4,7 @@ use mathlib.Core.Bool.{Bool, _&&_}
 use mathlib.Core.List.{List, [], _∷_, _++_}
 use lib.Dec.{leb, ltb, eqb}
 use Rattle.base.specs.Pick.{pick, bitOf}
+use Rattle.state_parts.specs.declared.profile.Profile.{Profile}
 
 -- What the host may do with a field. A counted one is CELL_PIN: written, but only by its own rule.
 pub data Access : Type 0 where
@@ -173,13 +174,13 @@ shifted f value = value % 2 ^ f .width * 2 ^ f .low
 abbrev pub keptFrom : Field → ℕ → ℕ → ℕ
 keptFrom f held byte = held / 2 ^ f .low * 2 ^ f .low + byte % 2 ^ f .low
 
--- the rows of one address
+-- the rows of one address; like every table of the paper it goes by the held profile
 abbrev pub rowsOf : List Field → ℕ → List Field
 rowsOf [] address = []
 rowsOf (f ∷ fs) address = pick (eqb address (f .address)) (f ∷ []) [] ++ rowsOf fs address
 
-unfoldable pub fieldsAt : ℕ → List Field
-fieldsAt address = rowsOf fields address
+unfoldable pub fieldsAt : Profile → ℕ → List Field
+fieldsAt p address = rowsOf fields address
 
 -- a byte put together of what each field has
 abbrev pub together : (Field → ℕ) → List Field → ℕ
@@ -194,8 +195,8 @@ shownPart readWrite held = held
 shownPart counted held = held
 
 -- what the host sees of a byte that stands at an address
-unfoldable pub shownOf : ℕ → ℕ → ℕ
-shownOf address held = together (λ (f : Field). shownPart (f .access) (digitOf f held)) (fieldsAt address)
+unfoldable pub shownOf : Profile → ℕ → ℕ → ℕ
+shownOf p address held = together (λ (f : Field). shownPart (f .access) (digitOf f held)) (fieldsAt p address)
 
 -- "Reserved and read-only bits ignore writes"; `count` says that a written count is taken
 abbrev pub takenPart : Bool → Access → ℕ → ℕ → ℕ
@@ -205,17 +206,17 @@ takenPart count readWrite held written = written
 takenPart count counted held written = pick count written held
 
 -- the byte that stands at an address after a write
-unfoldable pub takenOf : Bool → ℕ → ℕ → ℕ → ℕ
-takenOf count address held written =
-    together (λ (f : Field). takenPart count (f .access) (digitOf f held) (digitOf f written)) (fieldsAt address)
+unfoldable pub takenOf : Profile → Bool → ℕ → ℕ → ℕ → ℕ
+takenOf p count address held written =
+    together (λ (f : Field). takenPart count (f .access) (digitOf f held) (digitOf f written)) (fieldsAt p address)
 
 -- the byte of an address's resets
-unfoldable pub resetByte : ℕ → ℕ
-resetByte address = together (λ (f : Field). f .reset) (fieldsAt address)
+unfoldable pub resetByte : Profile → ℕ → ℕ
+resetByte p address = together (λ (f : Field). f .reset) (fieldsAt p address)
 
 -- "FSW (0x16 bits 2:0) written 0 or 7" (11): the sheet gives 1 to 6 a frequency
-abbrev pub frequencyOk : ℕ → Bool
-frequencyOk byte = leb 1 (digitOf fsw byte) && leb (digitOf fsw byte) 6
+abbrev pub frequencyOk : Profile → ℕ → Bool
+frequencyOk p byte = leb 1 (digitOf fsw byte) && leb (digitOf fsw byte) 6
 
 -- how many rows have this bit of an address
 abbrev pub rowsWith : List Field → ℕ → ℕ → ℕ
