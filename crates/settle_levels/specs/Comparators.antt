@@ -16,7 +16,7 @@ use Rattle.state_parts.specs.declared.sample.Sample.{Sample}
 use Rattle.state_parts.specs.declared.settings.Settings.{Settings}
 use Rattle.settle_levels.specs.Clamps.{faultOf, baseOf}
 
--- on where it begins, or where it was on and nothing ends it
+-- on if it begins, or if it was on and nothing ends it
 abbrev pub held : Bool → Bool → Bool → Bool
 held begins stays was = begins || (was && stays)
 

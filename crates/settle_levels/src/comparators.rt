@@ -13,7 +13,7 @@ use state_parts::registers::Registers;
 use state_parts::sample::Sample;
 use state_parts::settings::Settings;
 
-// On where it begins, or where it was on and nothing ends it.
+// On if it begins, or if it was on and nothing ends it.
 fn hold(begins: bool, stays: bool, was: bool) -> bool
     ensures { λ r. ⌜ r ≡ held begins stays was ⌝ }
 {

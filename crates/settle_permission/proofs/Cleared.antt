@@ -1,4 +1,4 @@
--- Where no time has run, no limit is reached.
+-- If no time has run, no limit is reached.
 use Prim.Native.Nat.{ℕ, zero, suc}
 use mathlib.Core.Path.{_≡_, refl}
 use mathlib.Core.Bool.{Bool, true, false}

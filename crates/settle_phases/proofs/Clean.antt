@@ -1,4 +1,4 @@
--- Where a charge runs, it is permitted and nothing is a fault.
+-- If a charge runs, it is permitted and nothing is a fault.
 use mathlib.Core.Path.{_≡_, refl}
 use mathlib.Core.Bool.{Bool, true, false, false≢true}
 use Rattle.state_parts.specs.Stages.{charging}

@@ -56,7 +56,7 @@ module _ (p : Profile) (count : Bool) (held written : ℕ) where
     unfolding takenOf
     taken-byte = below digit fits (fieldsAt p a) 8 (stacks p a h k)
 
-    -- at every field: what was written where it is read-write, what stood where it is read-only, 0 where it is reserved
+    -- at every field: what was written if it is read-write, what stood if it is read-only, 0 if it is reserved
     pub taken-digits : Each (λ (f : Field). digitOf f (takenOf p count a held written) ≡ takenPart count (f .access) (digitOf f held) (digitOf f written)) (fieldsAt p a)
     unfolding takenOf
     taken-digits = digits digit fits (fieldsAt p a) 8 (takenOf p count a held written) (stacks p a h k) (mod-eq-of-lt taken-byte)
@@ -93,7 +93,7 @@ all-written p count a held written h k small =
     span (λ (n : ℕ). takenOf p count n held written ≡ written) 0x16 4 a
     (each 0x16 (search needs), (each 0x17 (search needs), (each 0x18 (search needs), (each 0x19 (search needs), tt)))) h (omega arith)
 
--- 0x1B: the overrides are written, the VCHG pin's code stays, and the count is the written one where it is taken
+-- 0x1B: the overrides are written, the VCHG pin's code stays, and the count is the written one if it is taken
 pub pinned : (p : Profile) (count : Bool) (held written : ℕ) → takenOf p count 0x1B held written ≡ written / 128 % 2 * 128 + written / 64 % 2 * 64 + held / 8 % 8 * 8 + pick count written held % 8
 unfolding takenOf fieldsAt fields
 pinned p true held written = omega arith

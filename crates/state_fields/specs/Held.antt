@@ -3,8 +3,9 @@ use Prim.Native.Nat.{ℕ, _+_, _*_, _%_, _^_}
 use mathlib.Core.Bool.{Bool}
 use lib.Dec.{eqb}
 use Rattle.base.specs.Pick.{pick, bitOf}
+use Rattle.state_parts.specs.declared.profile.Profile.{Profile}
 use Rattle.state_parts.specs.declared.registers.Registers.{Registers}
-use Rattle.state_fields.specs.Rows.{Field, digitOf, shifted, vchgOverride, cellOverride, cellPin, ichgOverride}
+use Rattle.state_fields.specs.Rows.{Field, digitOf, shifted, vchgOverride, cellOverride, vchgPin, cellPin, ichgOverride, ichgPin}
 
 -- The sheet, tables 6-34 and 6-35, without VCHG_PIN and ICHG_PIN: those codes stand in the profile.
 abbrev pub stored1B : Registers → ℕ
@@ -13,7 +14,7 @@ stored1B g = shifted vchgOverride (bitOf (g .vchgoverride)) + shifted cellOverri
 abbrev pub stored1C : Registers → ℕ
 stored1C g = shifted ichgOverride (bitOf (g .ichgoverride))
 
--- the byte that the registers hold at an address; 0 where they hold none
+-- the byte that the registers hold at an address; 0 if they hold none
 abbrev pub storedAt : Registers → ℕ → ℕ
 storedAt g address =
     pick (eqb address 0x15) (g .r15)
@@ -24,6 +25,17 @@ storedAt g address =
     (pick (eqb address 0x1A) (g .r1a)
     (pick (eqb address 0x1B) (stored1B g)
     (pick (eqb address 0x1C) (stored1C g) 0)))))))
+
+-- the byte of 0x1B and 0x1C with the pin codes of the profile
+abbrev pub byte1B : Profile → Registers → ℕ
+byte1B p g = stored1B g + shifted vchgPin (p .vchg)
+
+abbrev pub byte1C : Profile → Registers → ℕ
+byte1C p g = stored1C g + shifted ichgPin (p .ichg)
+
+-- the byte that stands at an address
+abbrev pub standsAt : Profile → Registers → ℕ → ℕ
+standsAt p g address = pick (eqb address 0x1B) (byte1B p g) (pick (eqb address 0x1C) (byte1C p g) (storedAt g address))
 
 -- a field's value, by its name
 abbrev pub fieldOf : Field → Registers → ℕ

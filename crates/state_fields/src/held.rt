@@ -1,13 +1,14 @@
 // The byte that the registers hold at an address, read and stored.
 ghost use mathlib.Core.Path.{_≡_};
 ghost use Prim.Native.Nat.{_≤_};
-ghost use Rattle.state_fields.specs.Held.{stored1B, stored1C, storedAt, placed};
+ghost use Rattle.state_fields.specs.Held.{stored1B, stored1C, storedAt, byte1B, byte1C, standsAt, placed};
 use crate::digits;
 use base::choice;
+use state_parts::profile::Profile;
 use state_parts::registers::Registers;
 
 // What the registers hold of 0x1B: all but VCHG_PIN.
-pub fn stored_1b(g: Registers) -> u8
+fn stored_1b(g: Registers) -> u8
     ensures { λ r. ⌜ (r ≡ stored1B g) × (r ≤ 199) ⌝ }
 {
     let cells = g.cells % 8;
@@ -17,7 +18,7 @@ pub fn stored_1b(g: Registers) -> u8
 }
 
 // What the registers hold of 0x1C: all but ICHG_PIN.
-pub fn stored_1c(g: Registers) -> u8
+fn stored_1c(g: Registers) -> u8
     ensures { λ r. ⌜ (r ≡ stored1C g) × (r ≤ 8) ⌝ }
 {
     let high = choice::bit(g.ichgoverride);
@@ -38,6 +39,35 @@ pub fn stored_at(g: Registers, address: u32) -> u8
     let from17 = choice::byte(address == 0x17, g.r17, from18);
     let from16 = choice::byte(address == 0x16, g.r16, from17);
     choice::byte(address == 0x15, g.r15, from16)
+}
+
+// The byte of 0x1B: what the registers hold, and VCHG_PIN.
+fn byte_1b(p: Profile, g: Registers) -> u8
+    ensures { λ r. ⌜ r ≡ byte1B p g ⌝ }
+{
+    let vchg = (p.vchg % 8) as u8;
+    let stored = stored_1b(g);
+    stored + vchg * 8
+}
+
+// The byte of 0x1C: what the registers hold, and ICHG_PIN.
+fn byte_1c(p: Profile, g: Registers) -> u8
+    ensures { λ r. ⌜ r ≡ byte1C p g ⌝ }
+{
+    let ichg = (p.ichg % 8) as u8;
+    let stored = stored_1c(g);
+    stored + ichg
+}
+
+// The byte that stands at an address.
+pub fn stands_at(p: Profile, g: Registers, address: u32) -> u8
+    ensures { λ r. ⌜ r ≡ standsAt p g address ⌝ }
+{
+    let stored = stored_at(g, address);
+    let b1b = byte_1b(p, g);
+    let b1c = byte_1c(p, g);
+    let other = choice::byte(address == 0x1C, b1c, stored);
+    choice::byte(address == 0x1B, b1b, other)
 }
 
 // The registers with this byte at an address; `count` says that a written cell count is taken.

@@ -30,7 +30,7 @@ use Rattle.state_registers.specs.Reads.{byteAt}
 use Rattle.state_registers.specs.Resets.{resetRegisters, resetOf}
 use Rattle.state_registers.specs.Writes.{countTaken, recounted, writtenTo}
 
--- what is chosen passes where each of the two does
+-- what is chosen passes if each of the two does
 pick-passes : {A : Type 0} (test : A → Bool) (t : Bool) (one other : A) → (t ≡ true → test one ≡ true) → test other ≡ true → test (pick t one other) ≡ true
 pick-passes test true one other h k = h refl
 pick-passes test false one other h k = k

@@ -56,6 +56,6 @@ needs-override g a b e = by (eqb a 0x1B)
     by true = simp e
     by false = refl
 
--- where it stood, a byte that clears it still brings its count
+-- if it stood, a byte that clears it still brings its count
 pub takes-count : (g : Registers) (b : ℕ) → g .celloverride ≡ true → countTaken g 0x1B b ≡ (not (eqb (digitOf cellPin b) 0) && not (eqb (digitOf cellPin b) (g .cells)))
 takes-count g b e = simp e

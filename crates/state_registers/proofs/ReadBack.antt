@@ -8,22 +8,20 @@ use borrow.Author.Tests.{le-leb}
 use Rattle.base.specs.Pick.{pick, bitOf}
 use Rattle.base.specs.Told.{accepted}
 use Rattle.base.proofs.Span.{span}
-use Rattle.state_fields.specs.Held.{placed}
+use Rattle.state_fields.specs.Held.{byte1B, placed}
 use Rattle.state_fields.specs.Rows.{Field, vchgOverride, cellOverride, vchgPin, cellPin, ichgOverride, ichgPin, digitOf, shifted, fields, fieldsAt, takenPart, takenOf}
 use Rattle.state_fields.proofs.Bytes.{taken-digits, shown-again, pinned}
 use Rattle.state_fields.proofs.Stacks.{Each}
+use Rattle.state_settings.proofs.Stores.{bit-held}
 use Rattle.state_parts.specs.declared.profile.Profile.{Profile}
 use Rattle.state_parts.specs.declared.registers.Registers.{Registers}
 use Rattle.state_parts.specs.declared.state.State.{State}
-use Rattle.state_registers.specs.Reads.{byte1B, byteAt, readOf}
+use Rattle.state_registers.specs.Reads.{byteAt, readOf}
 use Rattle.state_registers.specs.Writes.{countTaken, writtenTo}
 
 bit-most : (b : Bool) → bitOf b ≤ 1
 bit-most true = omega arith
 bit-most false = omega arith
-
-bit-of : (n : ℕ) → n < 2 → bitOf (eqb n 1) ≡ n
-bit-of n h = span (λ (k : ℕ). bitOf (eqb k 1) ≡ k) 0 2 n (refl, (refl, tt)) (omega arith) h
 
 -- 0x1B: the parts of a byte that was put together
 same-parts : (a b c d e f g h : ℕ) → a < 2 → b < 2 → a ≡ e → b ≡ f → c % 8 ≡ g → d % 8 ≡ h → a % 2 * 128 + b % 2 * 64 + d % 8 * 1 + c % 8 * 8 ≡ e * 128 + f * 64 + g * 8 + h
@@ -43,7 +41,7 @@ kept1C true a b code e = absurd (false≢true (sym e))
 kept1C false a b code e = refl
 
 module _ (p : Profile) (g : Registers) where
-  code-held : byte1B p g / 8 % 8 ≡ p .vchg % 8
+  code-held : p .vchg % 8 ≡ digitOf vchgPin (byte1B p g)
   code-held = omega (arith, bit-most (g .vchgoverride), bit-most (g .celloverride))
 
   count-held : byte1B p g % 8 ≡ g .cells % 8
@@ -60,9 +58,9 @@ module _ (s : State) (b : ℕ) where
       let held = byte1B (s .profile) (s .registers) in
       let d = taken-digits (s .profile) count held b 0x1B (omega arith) (omega arith) in
       let x = after1B in
-      simp (bit-of (after1B / 128 % 2) (omega arith), bit-of (after1B / 64 % 2) (omega arith))
-      (same-parts (digitOf vchgOverride x) (digitOf cellOverride x) (s .profile .vchg) (pick count (digitOf cellPin x) (s .registers .cells)) (digitOf vchgOverride b) (digitOf cellOverride b) (held / 8 % 8) (pick count b held % 8) (omega arith) (omega arith)
-      (d .0) (d .1 .0) (sym (code-held (s .profile) (s .registers)))
+      simp (bit-held (after1B / 128 % 2) (omega arith), bit-held (after1B / 64 % 2) (omega arith))
+      (same-parts (digitOf vchgOverride x) (digitOf cellOverride x) (s .profile .vchg) (pick count (digitOf cellPin x) (s .registers .cells)) (digitOf vchgOverride b) (digitOf cellOverride b) (digitOf vchgPin held) (pick count b held % 8) (omega arith) (omega arith)
+      (d .0) (d .1 .0) (code-held (s .profile) (s .registers))
       (same-count count b held x (s .registers .cells) (d .1 .1 .1 .0) (count-held (s .profile) (s .registers)))
       ∙ sym (pinned (s .profile) count held b))
 
@@ -71,7 +69,7 @@ module _ (s : State) (b : ℕ) where
 
   stands1C : byteAt (writtenTo s 0x1C b) 0x1C ≡ after1C
   unfolding byteAt writtenTo placed takenOf fieldsAt fields
-  stands1C = simp (bit-of (after1C / 8 % 2) (omega arith)) (omega (arith, bit-most (s .registers .ichgoverride)))
+  stands1C = simp (bit-held (after1C / 8 % 2) (omega arith)) (omega (arith, bit-most (s .registers .ichgoverride)))
 
   module _ (a : ℕ) (h : 0x15 ≤ a) (k : a ≤ 0x1C) where
     -- what stands at the address after a write is the byte that the table takes

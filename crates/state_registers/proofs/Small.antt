@@ -1,4 +1,4 @@
--- A write's byte is narrowed before it is tested, and is itself where the test passes.
+-- A write's byte is narrowed before it is tested, and is itself if the test passes.
 use Prim.Native.Nat.{ℕ, _%_}
 use mathlib.Core.Path.{_≡_, refl, ap, _∙_}
 use mathlib.Core.Bool.{Bool, true, false, not, _&&_}

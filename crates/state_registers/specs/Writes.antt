@@ -7,7 +7,7 @@ use Rattle.base.specs.Refusals.{refusalNumber}
 use Rattle.base.specs.Told.{Told, accepted, refused}
 use Rattle.base.specs.Units.{inPack}
 use Rattle.state_fields.specs.Held.{placed}
-use Rattle.state_fields.specs.Rows.{cellPin, digitOf, takenOf, frequencyOk}
+use Rattle.state_fields.specs.Rows.{cellPin, fsw, digitOf, takenOf, frequencyOk}
 use Rattle.state_parts.specs.Pins.{vchgOf}
 use Rattle.state_parts.specs.With.{withVolts, withSettings, withRegisters}
 use Rattle.state_start.specs.Values.{startVsysmin}
@@ -26,7 +26,7 @@ writeTold (Refused refusal) = refused (refusalNumber refusal)
 
 -- "CELL_PIN takes a written count only if CELL_PIN_OVERRIDE stood before the write, the count is 1-7 and it differs."
 abbrev pub countTaken : Registers → ℕ → ℕ → Bool
-countTaken g address byte = eqb address 0x1B && g .celloverride && not (eqb (digitOf cellPin byte) 0) && not (eqb (digitOf cellPin byte) (g .cells))
+countTaken g address byte = eqb address (cellPin .address) && g .celloverride && not (eqb (digitOf cellPin byte) 0) && not (eqb (digitOf cellPin byte) (g .cells))
 
 -- "Then VSYSMIN takes its start value and VREG becomes vchg x count (unchanged if vchg is 0)."
 unfoldable pub recounted : Profile → ℕ → Settings → Settings
@@ -44,5 +44,5 @@ unfoldable pub writeOf : State → ℕ → ℕ → Told State
 writeOf s address byte =
     pick (not (knownAddress address)) (refused 10)
     (pick (not (leb byte 255)) (refused 5)
-    (pick (eqb address 0x16 && not (frequencyOk (s .profile) byte)) (refused 11)
+    (pick (eqb address (fsw .address) && not (frequencyOk (s .profile) byte)) (refused 11)
     (accepted (writtenTo s address byte))))

@@ -2,12 +2,9 @@
 ghost use mathlib.Core.Path.{_≡_};
 ghost use Rattle.base.specs.Pick.{pick};
 ghost use Rattle.base.specs.Told.{accepted, refused};
-ghost use Rattle.state_registers.specs.Reads.{readRegisterOf, registerTold, knownAddress, byte1B, byte1C, byteAt, readOf};
-use base::choice;
+ghost use Rattle.state_registers.specs.Reads.{readRegisterOf, registerTold, knownAddress, byteAt, readOf};
 use base::refusal::Refusal;
 use state_fields::held;
-use state_parts::profile::Profile;
-use state_parts::registers::Registers;
 use state_parts::state::Model;
 use state_parts::state::State;
 
@@ -23,36 +20,14 @@ pub fn known(address: u32) -> bool
     (0x15 <= address) & (address <= 0x1C)
 }
 
-// The byte of 0x1B: what the registers hold, and VCHG_PIN.
-fn byte_1b(p: Profile, g: Registers) -> u8
-    ensures { λ r. ⌜ r ≡ byte1B p g ⌝ }
-{
-    let vchg = (p.vchg % 8) as u8;
-    let stored = held::stored_1b(g);
-    stored + vchg * 8
-}
-
-// The byte of 0x1C: what the registers hold, and ICHG_PIN.
-fn byte_1c(p: Profile, g: Registers) -> u8
-    ensures { λ r. ⌜ r ≡ byte1C p g ⌝ }
-{
-    let ichg = (p.ichg % 8) as u8;
-    let stored = held::stored_1c(g);
-    stored + ichg
-}
-
 // The byte that stands at an address.
 pub fn byte_at(s: State, address: u32) -> u8
     ensures { λ r. ⌜ r ≡ byteAt s address ⌝ }
 {
-    let stored = held::stored_at(s.registers, address);
-    let b1b = byte_1b(s.profile, s.registers);
-    let b1c = byte_1c(s.profile, s.registers);
-    let other = choice::byte(address == 0x1C, b1c, stored);
-    choice::byte(address == 0x1B, b1b, other)
+    held::stands_at(s.profile, s.registers, address)
 }
 
-// The answer with a byte, where the address is known.
+// The answer: the byte if the address is known, else 10.
 fn answered(there: bool, byte: u8) -> ReadAnswer
     ensures { λ r. ⌜ registerTold r ≡ pick there (accepted byte) (refused 10) ⌝ }
 {

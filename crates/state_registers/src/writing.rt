@@ -47,7 +47,7 @@ fn recount(p: Profile, cells: u32, t: Settings) -> Settings
     n
 }
 
-// The first settings where the test holds.
+// The first settings if the test holds, else the other.
 fn either(test: bool, one: Settings, other: Settings) -> Settings
     ensures { λ r. ⌜ r ≡ pick test one other ⌝ }
 {

@@ -23,7 +23,8 @@ volts-held : (t : Bool) (v : ℕ) (p : PackMv) → millivoltsOf (pick t (packOf 
 volts-held true v p = refl
 volts-held false v p = refl
 
-bit-held : (v : ℕ) → v ≤ 1 → bitOf (eqb v 1) ≡ v
+-- a number that is 0 or 1 is its own test
+pub bit-held : (v : ℕ) → v ≤ 1 → bitOf (eqb v 1) ≡ v
 bit-held zero h = refl
 bit-held (suc zero) h = refl
 bit-held (suc (suc v)) h = absurd (omega arith)

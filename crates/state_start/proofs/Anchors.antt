@@ -6,7 +6,7 @@ use Rattle.state_parts.specs.declared.profile.Profile.{Profile}
 use Rattle.state_start.specs.Values.{startVreg, startIchg, startVsysmin}
 
 -- a power-on of these pin codes, with nothing else to say
-abbrev coded : ℕ → ℕ → ℕ → Profile
+abbrev pub coded : ℕ → ℕ → ℕ → Profile
 coded cell vchg ichg = record {
   cell = cell;
   vchg = vchg;

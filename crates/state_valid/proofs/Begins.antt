@@ -7,6 +7,7 @@ use borrow.Author.Tests.{le-leb, lt-ltb, ne-eqb}
 use Rattle.base.specs.Units.{inPack}
 use Rattle.base.proofs.Span.{tested, allOf}
 use Rattle.state_fields.specs.Rows.{fields, fieldsAt, shownOf, resetByte}
+use Rattle.state_start.proofs.Anchors.{coded}
 use Rattle.state_start.specs.Values.{startVreg, startIchg, startVsysmin, startSettings, startRegisters, startSample, startCycle, startWatchdog, startState}
 use Rattle.state_parts.specs.Stages.{limitUnits}
 use Rattle.state_parts.specs.declared.phase.Phase.{Phase}
@@ -19,21 +20,6 @@ use Rattle.state_settings.specs.Ranges.{ranges, rangeOf, mayHold}
 use Rattle.state_valid.proofs.Bounds.{profile-bounds}
 use Rattle.state_valid.proofs.Wholes.{whole}
 
--- a profile of these pin codes
-abbrev coded : ℕ → ℕ → Profile
-coded vchg ichg = record {
-  cell = 0;
-  vchg = vchg;
-  ichg = ichg;
-  ohms = 0;
-  stamp = 0;
-  ceiling = 0;
-  trickle = 0;
-  precharge = 0;
-  fast = 0;
-  watchdog = 0;
-}
-
 -- the settings that start at the same value whatever the pins say
 others-may : (p : Profile) (a b d : Bool) → a ≡ true → b ≡ true → d ≡ true
     → (a && b && mayHold p 3 120 && mayHold p 4 60 && mayHold p 5 3300 && d && mayHold p 7 3 && mayHold p 8 3 && mayHold p 9 1 && mayHold p 10 1 && mayHold p 11 0 && mayHold p 12 1 && mayHold p 13 0 && mayHold p 14 0) ≡ true
@@ -44,13 +30,13 @@ module _ (p : Profile) (cells : ℕ) (v : p .vchg ≤ 7) (i : p .ichg ≤ 7) (c 
   pub vreg-may : mayHold p 1 (startVreg p cells .0) ≡ true
   unfolding startVreg inPack mayHold rangeOf ranges
   vreg-may =
-      let test : ℕ → ℕ → Bool = λ code count. mayHold p 1 (startVreg (coded code 0) count .0) in
+      let test : ℕ → ℕ → Bool = λ code count. mayHold p 1 (startVreg (coded 0 code 0) count .0) in
       tested (test (p .vchg)) 0 8 cells
       (tested (λ (code : ℕ). allOf (test code) 0 8) 0 8 (p .vchg) refl (omega arith) (omega arith)) (omega arith) (omega arith)
 
   ichg-may : mayHold p 2 (startIchg p) ≡ true
   unfolding startIchg mayHold rangeOf ranges
-  ichg-may = tested (λ (code : ℕ). mayHold p 2 (startIchg (coded 0 code))) 0 8 (p .ichg) refl (omega arith) (omega arith)
+  ichg-may = tested (λ (code : ℕ). mayHold p 2 (startIchg (coded 0 0 code))) 0 8 (p .ichg) refl (omega arith) (omega arith)
 
   pub vsysmin-may : mayHold p 6 (startVsysmin p cells .0) ≡ true
   unfolding startVsysmin inPack mayHold rangeOf ranges

@@ -99,19 +99,19 @@ either-of : (a b : Bool) → (a || b) ≡ true → (a ≡ true) ⊎ (b ≡ true)
 either-of true b e = inl refl
 either-of false b e = inr e
 
--- a stage's time is 0 where its limit is, and below its limit and one observation's most else
+-- a stage's time is 0 if its limit is, and else below the limit plus the most that one observation adds
 pub stage-below : (limit : ℕ) (stage : Bool) (time : ℕ) → stageOk limit stage time ≡ true → time < limitUnits limit + 7200000
 stage-below limit stage time e =
     ⊎-elim (λ none. omega (arith, simp (and-iff, eqb-iff) at none)) (λ some. omega (arith, simp (and-iff, leb-iff) at some))
     (either-of (eqb limit 0 && eqb time 0) (leb 1 limit && ltb time (limitUnits limit + 7200000) && (not stage || ltb time (limitUnits limit))) e)
 
--- where the stage is held its time is below its limit
+-- if the stage is held, its time is below its limit
 pub stage-held : (limit time : ℕ) → 1 ≤ limit → stageOk limit true time ≡ true → time < limitUnits limit
 stage-held limit time h e =
     ⊎-elim (λ none. absurd (omega (arith, simp (and-iff, eqb-iff) at none))) (λ some. omega (arith, simp (and-iff, leb-iff) at some))
     (either-of (eqb limit 0 && eqb time 0) (leb 1 limit && ltb time (limitUnits limit + 7200000) && ltb time (limitUnits limit)) e)
 
--- a cycle holds what it may exactly where each of its stages does
+-- a cycle holds what it may if and only if each of its stages does
 pub record Stages (y : Cycle) (p : Profile) (phase : Phase) : Type 0 where
   pub trickle : stageOk (p .trickle) (inTrickle phase) (y .trickle) ≡ true
   pub precharge : stageOk (p .precharge) (inPrecharge phase) (y .precharge) ≡ true

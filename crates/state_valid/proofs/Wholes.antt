@@ -1,4 +1,4 @@
--- A state holds what it may exactly where each of its parts does.
+-- A state holds what it may if and only if each of its parts does.
 use mathlib.Core.Path.{_≡_}
 use mathlib.Core.Bool.{true}
 use Rattle.base.proofs.Tests.{and-iff}

@@ -1,4 +1,4 @@
--- `charge_clamp`: the pin's current, or the top where it is overridden.
+-- `charge_clamp`: the pin's current, or the top if it is overridden.
 use Rattle.report_state.specs.Report.{chargeClampOf}
 use Rattle.report_state.proofs.report.charge_clamp.Statement.{statement}
 use Rattle.report_state.proofs.report.charge_clamp.Tie as tie

@@ -1,4 +1,4 @@
--- `fast_current`: a share of at most 100 percent fits where the whole does.
+-- `fast_current`: a share of at most 100 percent fits if the whole does.
 use Prim.Native.Nat.{_≤_}
 use native.Mathlib.Nat.{mul-le-mul}
 use native.Mathlib.Omega.{arith}
