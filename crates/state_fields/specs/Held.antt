@@ -1,5 +1,5 @@
 -- Which byte the registers hold at which address, read and stored; and a field of them by its name.
-use Prim.Native.Nat.{ℕ, _+_, _*_, _%_, _^_}
+use Prim.Native.Nat.{ℕ, _+_}
 use mathlib.Core.Bool.{Bool}
 use lib.Dec.{eqb}
 use Rattle.base.specs.Pick.{pick, bitOf}

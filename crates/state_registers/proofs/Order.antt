@@ -4,7 +4,7 @@ use mathlib.Core.Path.{_≡_, refl}
 use mathlib.Core.Bool.{Bool, true, false, not, _&&_}
 use lib.Dec.{leb, eqb}
 use Rattle.base.specs.Pick.{pick}
-use Rattle.base.specs.Told.{Told, accepted, refused, answerNumber}
+use Rattle.base.specs.Told.{accepted, refused, answerNumber}
 use Rattle.state_fields.specs.Rows.{cellPin, digitOf, frequencyOk}
 use Rattle.state_parts.specs.declared.registers.Registers.{Registers}
 use Rattle.state_parts.specs.declared.state.State.{State}

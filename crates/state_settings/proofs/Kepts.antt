@@ -1,5 +1,4 @@
 -- What settings may hold, test by test: those that are on or off may hold what they do.
-use Prim.Native.Nat.{ℕ}
 use mathlib.Core.Path.{_≡_, refl}
 use mathlib.Core.Bool.{Bool, true, false, _&&_}
 use Rattle.base.specs.Pick.{bitOf}
