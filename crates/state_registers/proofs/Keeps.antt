@@ -110,7 +110,7 @@ unfolding resetRegisters
 reset-registers-pass p g cell e =
     let k = bytes-apart p g e in
     let held : g .r19 < 256 = subst (λ (n : ℕ). n < 256) (eqb-true (shownOf p 0x19 (g .r19)) (g .r19) (k .b19)) (shown-byte p 0x19 (g .r19) (omega arith) (omega arith)) in
-    let r19 = g .r19 / 128 * 128 + 0xD7 % 128 in
+    let r19 = resetRegisters p g .r19 in
     let start = bytes-apart p (startRegisters p) (start-registers-pass p cell) in
     bytes-whole p (resetRegisters p g) (record {
       b15 = start .b15;
