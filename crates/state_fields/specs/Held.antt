@@ -42,8 +42,8 @@ abbrev pub fieldOf : Field → Registers → ℕ
 fieldOf f g = digitOf f (storedAt g (f .address))
 
 -- a byte that stands at an address now, taken apart into what the registers hold; `count` says that a written count is taken
-unfoldable pub placed : Bool → Registers → ℕ → ℕ → Registers
-placed count g address byte = record {
+unfoldable pub withByte : Bool → Registers → ℕ → ℕ → Registers
+withByte count g address byte = record {
   r15 = pick (eqb address 0x15) byte (g .r15);
   r16 = pick (eqb address 0x16) byte (g .r16);
   r17 = pick (eqb address 0x17) byte (g .r17);

@@ -1,7 +1,7 @@
 // The byte that the registers hold at an address, read and stored.
 ghost use mathlib.Core.Path.{_≡_};
 ghost use Prim.Native.Nat.{_≤_};
-ghost use Rattle.state_fields.specs.Held.{stored1B, stored1C, storedAt, byte1B, byte1C, standsAt, placed};
+ghost use Rattle.state_fields.specs.Held.{stored1B, stored1C, storedAt, byte1B, byte1C, standsAt, withByte};
 use crate::digits;
 use base::choice;
 use state_parts::profile::Profile;
@@ -71,8 +71,8 @@ pub fn stands_at(p: Profile, g: Registers, address: u32) -> u8
 }
 
 // The registers with this byte at an address; `count` says that a written cell count is taken.
-pub fn place(count: bool, g: Registers, address: u32, byte: u8) -> Registers
-    ensures { λ r. ⌜ r ≡ placed count g address byte ⌝ }
+pub fn with_byte(count: bool, g: Registers, address: u32, byte: u8) -> Registers
+    ensures { λ r. ⌜ r ≡ withByte count g address byte ⌝ }
 {
     let written = digits::cell_pin(byte);
     let vchg = digits::vchg_override(byte);

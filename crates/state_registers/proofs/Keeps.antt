@@ -9,7 +9,7 @@ use Rattle.base.specs.Pick.{pick}
 use Rattle.base.specs.Units.{inPack}
 use Rattle.base.specs.declared.units.PackMv.{PackMv}
 use Rattle.base.proofs.Tests.{and-iff}
-use Rattle.state_fields.specs.Held.{placed}
+use Rattle.state_fields.specs.Held.{withByte}
 use Rattle.state_fields.specs.Rows.{cellPin, digitOf, takenOf, shownOf, frequencyOk}
 use Rattle.state_fields.proofs.Bytes.{shown-again, all-written, all-shown, shown-byte}
 use Rattle.state_parts.specs.Pins.{vchgOf}
@@ -145,12 +145,12 @@ module _ (s : State) (e : stateOk s ≡ true) where
         let is = eqb-true a 0x16 same in
         subst (λ (n : ℕ). frequencyOk (s .profile) n ≡ true) (sym (all-written (s .profile) count a (byteAt s a) b (omega arith) (omega arith) small)) (legal is)
 
-    placed-passes : registersOk (s .profile) (placed count (s .registers) a after) ≡ true
-    unfolding placed
-    placed-passes =
+    with-byte-passes : registersOk (s .profile) (withByte count (s .registers) a after) ≡ true
+    unfolding withByte
+    with-byte-passes =
         let g = s .registers in
         let k = bytes-apart (s .profile) g (parts .registers) in
-        bytes-whole (s .profile) (placed count g a after) (record {
+        bytes-whole (s .profile) (withByte count g a after) (record {
           b15 = pick-passes (byteOk (s .profile) 0x15) (eqb a 0x15) after (g .r15) (clean 0x15) (k .b15);
           b16 = pick-passes (byteOk (s .profile) 0x16) (eqb a 0x16) after (g .r16) (clean 0x16) (k .b16);
           b17 = pick-passes (byteOk (s .profile) 0x17) (eqb a 0x17) after (g .r17) (clean 0x17) (k .b17);
@@ -177,7 +177,7 @@ module _ (s : State) (e : stateOk s ≡ true) where
           profile = parts .profile;
           settings = pick-passes (settingsOk (s .profile)) count (recounted (s .profile) (digitOf cellPin b) (s .settings)) (s .settings)
               (λ taken. recount-passes (s .profile) p (digitOf cellPin b) (some-count taken) (omega arith) (s .settings) (parts .settings)) (parts .settings);
-          registers = placed-passes;
+          registers = with-byte-passes;
           cycle = parts .cycle;
           watchdog = parts .watchdog;
           sample = parts .sample;

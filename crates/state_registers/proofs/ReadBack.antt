@@ -8,7 +8,7 @@ use borrow.Author.Tests.{le-leb}
 use Rattle.base.specs.Pick.{pick, bitOf}
 use Rattle.base.specs.Told.{accepted}
 use Rattle.base.proofs.Span.{span}
-use Rattle.state_fields.specs.Held.{byte1B, placed}
+use Rattle.state_fields.specs.Held.{byte1B, withByte}
 use Rattle.state_fields.specs.Rows.{Field, vchgOverride, cellOverride, vchgPin, cellPin, ichgOverride, ichgPin, digitOf, shifted, fields, fieldsAt, takenPart, takenOf}
 use Rattle.state_fields.proofs.Bytes.{taken-digits, shown-again, pinned}
 use Rattle.state_fields.proofs.Stacks.{Each}
@@ -52,7 +52,7 @@ module _ (s : State) (b : ℕ) where
   after1B = takenOf (s .profile) (countTaken (s .registers) 0x1B b) 0x1B (byteAt s 0x1B) b
 
   stands1B : byteAt (writtenTo s 0x1B b) 0x1B ≡ after1B
-  unfolding byteAt writtenTo placed fieldsAt fields
+  unfolding byteAt writtenTo withByte fieldsAt fields
   stands1B =
       let count = countTaken (s .registers) 0x1B b in
       let held = byte1B (s .profile) (s .registers) in
@@ -68,13 +68,13 @@ module _ (s : State) (b : ℕ) where
   after1C = takenOf (s .profile) (countTaken (s .registers) 0x1C b) 0x1C (byteAt s 0x1C) b
 
   stands1C : byteAt (writtenTo s 0x1C b) 0x1C ≡ after1C
-  unfolding byteAt writtenTo placed takenOf fieldsAt fields
+  unfolding byteAt writtenTo withByte takenOf fieldsAt fields
   stands1C = simp (bit-held (after1C / 8 % 2) (omega arith)) (omega (arith, bit-most (s .registers .ichgoverride)))
 
   module _ (a : ℕ) (h : 0x15 ≤ a) (k : a ≤ 0x1C) where
     -- what stands at the address after a write is the byte that the table takes
     pub stands : byteAt (writtenTo s a b) a ≡ takenOf (s .profile) (countTaken (s .registers) a b) a (byteAt s a) b
-    unfolding byteAt writtenTo placed
+    unfolding byteAt writtenTo withByte
     stands =
         span (λ (n : ℕ). byteAt (writtenTo s n b) n ≡ takenOf (s .profile) (countTaken (s .registers) n b) n (byteAt s n) b) 0x15 8 a
         (refl, (refl, (refl, (refl, (refl, (refl, (stands1B, (stands1C, tt)))))))) h (omega arith)
@@ -94,7 +94,7 @@ module _ (s : State) (b : ℕ) where
 
   -- a write leaves every other address as it stands
   pub others-stand : (a other : ℕ) → eqb a other ≡ false → 0x15 ≤ other → other ≤ 0x1C → byteAt (writtenTo s a b) other ≡ byteAt s other
-  unfolding byteAt writtenTo placed
+  unfolding byteAt writtenTo withByte
   others-stand a other e h k =
       let g = s .registers in
       let x = takenOf (s .profile) (countTaken g a b) a (byteAt s a) b in

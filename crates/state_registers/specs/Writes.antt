@@ -6,7 +6,7 @@ use Rattle.base.specs.Pick.{pick}
 use Rattle.base.specs.Refusals.{refusalNumber}
 use Rattle.base.specs.Told.{Told, accepted, refused}
 use Rattle.base.specs.Units.{inPack}
-use Rattle.state_fields.specs.Held.{placed}
+use Rattle.state_fields.specs.Held.{withByte}
 use Rattle.state_fields.specs.Rows.{cellPin, fsw, digitOf, takenOf, frequencyOk}
 use Rattle.state_parts.specs.Pins.{vchgOf}
 use Rattle.state_parts.specs.With.{withVolts, withSettings, withRegisters}
@@ -37,7 +37,7 @@ unfoldable pub writtenTo : State → ℕ → ℕ → State
 writtenTo s address byte =
     let count = countTaken (s .registers) address byte in
     withRegisters (withSettings s (pick count (recounted (s .profile) (digitOf cellPin byte) (s .settings)) (s .settings)))
-    (placed count (s .registers) address (takenOf (s .profile) count address (byteAt s address) byte))
+    (withByte count (s .registers) address (takenOf (s .profile) count address (byteAt s address) byte))
 
 -- "3 write | address, byte 0-255"; "FSW (0x16 bits 2:0) written 0 or 7"
 unfoldable pub writeOf : State → ℕ → ℕ → Told State

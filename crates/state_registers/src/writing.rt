@@ -64,7 +64,7 @@ fn written(s: State, address: u32, byte: u8) -> State
     let taken = state_fields::taken(s.profile, count, address, stood, byte);
     let anew = recount(s.profile, cells, s.settings);
     let settings = either(count, anew, s.settings);
-    let registers = held::place(count, s.registers, address, taken);
+    let registers = held::with_byte(count, s.registers, address, taken);
     let mut n = s;
     n.settings = settings;
     n.registers = registers;
