@@ -9,7 +9,7 @@ use Rattle.base.specs.declared.refusal.Refusal.{Refusal}
 use Rattle.state_parts.specs.declared.state.State.{State}
 use Rattle.state_parts.specs.declared.state.Model.{Model}
 use Rattle.state_parts.specs.declared.state.Model.the-variants.{Off, On}
-use Rattle.state_registers.specs.Reads.{readTold, readRegisterOf}
+use Rattle.state_registers.specs.Reads.{registerTold, readRegisterOf}
 use Rattle.state_registers.specs.declared.reading.ReadAnswer.{ReadAnswer}
 use Rattle.c_words.specs.Words.{bytesOf}
 use Rattle.c_image.specs.Images.{modelIn, loadedTold}
@@ -40,6 +40,6 @@ module _ (image : List ℕ) (address : ℕ) (x : Loaded) (told : loadedTold x �
   unfolding registerOf
   no-register e = rw (← told, e)
 
-  pub a-register : (m : Model) (got : ReadAnswer) (b : Byte) → x ≡ Held m → readTold got ≡ readRegisterOf m address → b ≡ byteTold (readTold got) → b ≡ registerOf image address
+  pub a-register : (m : Model) (got : ReadAnswer) (b : Byte) → x ≡ Held m → registerTold got ≡ readRegisterOf m address → b ≡ byteTold (registerTold got) → b ≡ registerOf image address
   unfolding registerOf
   a-register m got b e eg eb = rw (← told, e, ← eg, eb)

@@ -2,7 +2,7 @@
 ghost use mathlib.Core.Path.{_≡_};
 ghost use Rattle.c_calls.specs.Landing.{left};
 ghost use Rattle.c_calls.specs.Showing.{reportNumbers, reportCallOf, registerOf, byteTold};
-ghost use Rattle.state_registers.specs.Reads.{readTold};
+ghost use Rattle.state_registers.specs.Reads.{registerTold};
 use crate::answer::Answer;
 use crate::answer::Byte;
 use crate::landing;
@@ -64,7 +64,7 @@ pub extern "C" fn cheukdane_report(image: &[u8], report: &mut [u8]) -> Answer
 
 // A register's byte, or its refusal.
 fn byte_of(got: ReadAnswer) -> Byte
-    ensures { λ r. ⌜ r ≡ byteTold (readTold got) ⌝ }
+    ensures { λ r. ⌜ r ≡ byteTold (registerTold got) ⌝ }
 {
     match got {
         ReadAnswer::Byte(b) => Byte {

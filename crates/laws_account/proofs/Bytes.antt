@@ -11,7 +11,8 @@ use Rattle.state_parts.specs.declared.sample.Sample.{Sample}
 use Rattle.state_parts.specs.declared.state.State.{State}
 use Rattle.state_fields.specs.Rows.{fields, fieldsAt, takenOf, resetByte}
 use Rattle.state_registers.specs.Reads.{byteAt}
-use Rattle.state_registers.specs.Writes.{countTaken, placed}
+use Rattle.state_registers.specs.Writes.{countTaken}
+use Rattle.state_fields.specs.Held.{withByte, storedAt, standsAt, fieldOf}
 use Rattle.state_registers.specs.Resets as registers
 use Rattle.step_event.specs.Clock.{clearedIf}
 use Rattle.laws_account.specs.History.{Run, _▸_}
@@ -63,7 +64,7 @@ module _ (s : State) (byte : ℕ) where
       → pick (eqb address at) (eqb (left address / weight % 2) 1) old ≡ pick (eqb address at) (eqb (byte / weight % 2) 1) old
   bit-at at weight old h address = chosen-at at address (λ a. eqb (left a / weight % 2) 1) old ∙ ap (λ n. pick (eqb address at) (eqb n 1) old) h
 
-  pub placed-is : (address : ℕ) → placed (countTaken (s .registers) address byte) (s .registers) address (left address) ≡ record {
+  pub placed-is : (address : ℕ) → withByte storedAt standsAt fieldOf (countTaken (s .registers) address byte) (s .registers) address (left address) ≡ record {
     r15 = pick (eqb address 0x15) (takenOf false 0x15 (s .registers .r15) byte) (s .registers .r15);
     r16 = pick (eqb address 0x16) (takenOf false 0x16 (s .registers .r16) byte) (s .registers .r16);
     r17 = pick (eqb address 0x17) (takenOf false 0x17 (s .registers .r17) byte) (s .registers .r17);
@@ -75,7 +76,7 @@ module _ (s : State) (byte : ℕ) where
     celloverride = pick (eqb address 0x1B) (eqb (byte / 64 % 2) 1) (s .registers .celloverride);
     ichgoverride = pick (eqb address 0x1C) (eqb (byte / 8 % 2) 1) (s .registers .ichgoverride);
   }
-  unfolding placed byteAt
+  unfolding withByte storedAt standsAt fieldOf byteAt
   placed-is address = λ i. record {
     r15 = chosen-at 0x15 address left (s .registers .r15) i;
     r16 = chosen-at 0x16 address left (s .registers .r16) i;
@@ -90,7 +91,7 @@ module _ (s : State) (byte : ℕ) where
   }
 
 pub written-bytes : (r : Run) (s : State) → s .registers ≡ registersAt r → (address byte : ℕ)
-    → placed (countTaken (s .registers) address byte) (s .registers) address (left s byte address) ≡ registersAt (r ▸ Write address byte)
+    → withByte storedAt standsAt fieldOf (countTaken (s .registers) address byte) (s .registers) address (left s byte address) ≡ registersAt (r ▸ Write address byte)
 unfolding registersAt byteOf cellsOf overridden
 written-bytes r s h address byte = placed-is s byte address ∙ rw h refl
 

@@ -9,7 +9,7 @@ use Rattle.state_parts.specs.declared.band.Band.the-variants.{Normal}
 use Rattle.state_parts.specs.declared.phase.Phase.the-variants.{Idle}
 use Rattle.state_parts.specs.declared.profile.Profile.{Profile}
 use Rattle.state_parts.specs.declared.state.State.{State}
-use Rattle.state_start.specs.Values.{startSettings, startRegisters, startLatches, startCycle, startWatchdog, startSample, startOf}
+use Rattle.state_start.specs.Values.{startSettings, startRegisters, startLatches, startCycle, startWatchdog, startSample, startState}
 use Rattle.state_settings.specs.Numbered.{settingNumbers, heldOf}
 use Rattle.state_fields.specs.Rows.{fields, fieldsAt, resetByte}
 use Rattle.state_valid.specs.Holds.{profileOk}
@@ -36,7 +36,7 @@ use Rattle.laws_account.proofs.Starting.{below-short, below-any}
 
 -- what a power-on leaves
 abbrev pub poweredOf : Profile → State
-poweredOf p = withFlags (settleOf (startOf p) false) powerOnFlags
+poweredOf p = withFlags (settleOf (startState p) false) powerOnFlags
 
 -- VBAT_LOWV starts at 3
 low-pos : (p : Profile) → 0 < lowEnds (powered p) - 50
@@ -74,8 +74,8 @@ module _ (p : Profile) where
     flags = noFlags;
   }
 
-  forced-start : forcedOf (startOf p) ≡ begun
-  unfolding forcedOf startOf
+  forced-start : forcedOf (startState p) ≡ begun
+  unfolding forcedOf startState
   forced-start = λ i. record {
     profile = p;
     settings = settings-start i;
@@ -151,7 +151,7 @@ module _ (p : Profile) where
     unfolding bandOf registersAt bandAt sampleOf
     band-start = refl
 
-    settle-start : settleOf (startOf p) false ≡ flaggedWith on noFlags
+    settle-start : settleOf (startState p) false ≡ flaggedWith on noFlags
     unfolding settleOf
     settle-start =
         ap settledFrom forced-start

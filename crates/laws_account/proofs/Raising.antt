@@ -7,7 +7,8 @@ use Rattle.state_parts.specs.declared.state.State.{State}
 use Rattle.settle_permission.specs.Limits.{reachedOf}
 use Rattle.state_parts.specs.With.{withFlags}
 use Rattle.state_parts.specs.declared.state.Model.the-variants.{On}
-use Rattle.step_flags.specs.Edges.{begins, seenOf, edgesOf}
+use Rattle.step_flags.specs.Expiry.{begins}
+use Rattle.step_flags.specs.Edges.{seenOf, edgesOf}
 use Rattle.settle_all.specs.Settle.{settleOf}
 use Rattle.step_kinds.specs.Answers.{Outcome}
 use Rattle.step_kinds.specs.Finish.{observing, keptBy, handedBy, pulsesBy, finishOf}

@@ -10,7 +10,7 @@ use Rattle.step_flags.specs.Edges.{seenOf}
 use Rattle.state_parts.specs.declared.profile.Profile.{Profile}
 use Rattle.state_parts.specs.declared.sample.Sample.{Sample}
 use Rattle.state_parts.specs.declared.state.Model.{Model}
-use Rattle.state_start.specs.Values.{startOf}
+use Rattle.state_start.specs.Values.{startState}
 use Rattle.state_parts.specs.declared.state.State.{State}
 use Rattle.state_parts.specs.declared.state.Model.the-variants.{On}
 use Rattle.state_fields.specs.Rows.{frequencyOk}
@@ -96,6 +96,6 @@ unfolding turnedBy changeOf movedOf
 turn-is r e ok = ap (λ b. closed r (pick b (followedOf (stateOf r) e) (refused 5))) ok ∙ followed-is r e
 
 -- a power-on, whatever was seen before it
-pub opened-is : (p : Profile) → profileOk p ≡ true → (m : Model) → finishOf (seenOn m) (startOf p) Powers ≡ acceptedAt (powered p)
+pub opened-is : (p : Profile) → profileOk p ≡ true → (m : Model) → finishOf (seenOn m) (startState p) Powers ≡ acceptedAt (powered p)
 unfolding finishOf pulsed handedBack
 opened-is p ok m = λ i. record { number = 0; place = 0; model = On (powered-is p ok i); pulse = true; handed = noFlags }

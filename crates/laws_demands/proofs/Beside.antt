@@ -4,7 +4,7 @@ use mathlib.Core.Bool.{true, false≢true}
 use Rattle.state_parts.specs.Numbers.{phaseNumber}
 use Rattle.state_parts.specs.declared.phase.Phase.{Phase}
 use Rattle.state_parts.specs.declared.phase.Phase.the-variants.{Idle, Trickle, Precharge, Fast, Taper, Done, Suspended, Fault}
-use Rattle.settle_phases.specs.Order.{charging}
+use Rattle.state_parts.specs.Stages.{charging}
 use Rattle.laws_account.specs.Cycles.{Stage, trickle, precharge, fast, heldIn, starts, phaseAt}
 use Rattle.laws_demands.specs.Laws.{HeldBelowLimit, CycleStartsLast}
 use Rattle.laws_demands.proofs.Positions.{last-le, last-is}

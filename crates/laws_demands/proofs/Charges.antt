@@ -10,7 +10,8 @@ use Rattle.state_parts.specs.Numbers.{phaseNumber}
 use Rattle.state_parts.specs.declared.phase.Phase.{Phase}
 use Rattle.state_parts.specs.declared.phase.Phase.the-variants.{Trickle, Precharge, Fast, Taper}
 use Rattle.state_parts.specs.declared.profile.Profile.{Profile}
-use Rattle.settle_phases.specs.Order.{charging, firstPhase}
+use Rattle.state_parts.specs.Stages.{charging}
+use Rattle.settle_phases.specs.Order.{firstPhase}
 use Rattle.settle_permission.specs.Bits.{shutdownOf}
 use Rattle.laws_account.specs.History.{Run, powered, _▸_, since, sumAfter}
 use Rattle.step_turns.specs.declared.later.Later.{Later}

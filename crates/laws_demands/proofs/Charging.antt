@@ -3,7 +3,7 @@ use mathlib.Core.Path.{_≡_, refl}
 use mathlib.Core.Bool.{Bool, true, false, not, _&&_, false≢true}
 use Rattle.state_parts.specs.declared.band.Band.{Band}
 use Rattle.state_parts.specs.declared.band.Band.the-variants.{Normal, Cold, Cool, Warm, Hot}
-use Rattle.settle_phases.specs.Order.{charging}
+use Rattle.state_parts.specs.Stages.{charging}
 use Rattle.settle_permission.specs.Bits.{ceHigh, hizHigh, shutdownOf}
 use Rattle.laws_account.specs.History.{Run}
 use Rattle.laws_account.specs.Held.{sampleOf}

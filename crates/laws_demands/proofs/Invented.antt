@@ -8,7 +8,7 @@ use Rattle.state_parts.specs.declared.state.State.{State}
 use Rattle.state_parts.specs.declared.state.Model.{Model}
 use Rattle.state_parts.specs.declared.state.Model.the-variants.{Off, On}
 use Rattle.log_event.specs.declared.Event.the-variants.{PowerOn, Observe}
-use Rattle.state_start.specs.Values.{startOf, startSettings, startVreg, startIchg, startVsysmin}
+use Rattle.state_start.specs.Values.{startState, startSettings, startVreg, startIchg, startVsysmin}
 use Rattle.state_settings.specs.Kept.{settingsOk}
 use Rattle.state_settings.specs.Numbered.{heldOf, settingNumbers}
 use Rattle.state_settings.specs.Ranges.{mayHold, rangeOf, ranges}
@@ -45,7 +45,7 @@ unfolding inventsTimes stepOf turnedBy turnOf changeOf firstOf finishOf profileI
 begins time = refl
 
 unfit : (t : ℕ) → stateOk (invented (suc t)) ≡ false
-unfolding stateOk profileOk settingsOk registersOk cycleOk watchdogOk sampleOk settleOf startOf forcedOf latchesOf bandOf settledOf testsOf startSettings mayHold heldOf shownOf faultOf baseOf shortOf lowOf packOverOf cycleOf phaseOf permittedOf suspendsOf belowRecharge taperOf chargeVoltageOf endingOf startVreg startIchg startVsysmin rangeOf settingNumbers fieldsAt packClampOf inPack belowShare clearsOf endsOf judgedOf reachedOf cutOf regulatedOf ranges fields restartsOf
+unfolding stateOk profileOk settingsOk registersOk cycleOk watchdogOk sampleOk settleOf startState forcedOf latchesOf bandOf settledOf testsOf startSettings mayHold heldOf shownOf faultOf baseOf shortOf lowOf packOverOf cycleOf phaseOf permittedOf suspendsOf belowRecharge taperOf chargeVoltageOf endingOf startVreg startIchg startVsysmin rangeOf settingNumbers fieldsAt packClampOf inPack belowShare clearsOf endsOf judgedOf reachedOf cutOf regulatedOf ranges fields restartsOf
 unfit t = simp eqb·suc-zero
 
 refuses : (t : ℕ) → inventsTimes (suc t) (On (invented (suc t))) (Observe sampled) .model ≡ On (invented (suc t))

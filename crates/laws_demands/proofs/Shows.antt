@@ -13,7 +13,7 @@ use Rattle.state_parts.specs.declared.phase.Phase.{Phase}
 use Rattle.state_parts.specs.declared.phase.Phase.the-variants.{Idle, Trickle, Precharge, Fast, Taper, Done, Suspended, Fault}
 use Rattle.settle_levels.specs.Clamps.{packClampOf, baseOf}
 use Rattle.settle_levels.specs.Voltage.{chargeVoltageOf}
-use Rattle.settle_phases.specs.Order.{charging}
+use Rattle.state_parts.specs.Stages.{charging}
 use Rattle.report_state.specs.Report.{chargeClampOf, fastCurrent, currentIn, voltageIn, reportOf}
 use Rattle.laws_account.specs.History.{Run}
 use Rattle.laws_account.specs.Held.{profileOf, cellsOf}

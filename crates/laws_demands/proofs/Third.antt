@@ -7,7 +7,7 @@ use mathlib.Core.Bool.{Bool, true, false}
 use mathlib.Core.List.{List, [], _∷_}
 use Rattle.base.specs.Pick.{pick}
 use Rattle.state_parts.specs.Pins.{ichgOf}
-use Rattle.settle_phases.specs.Order.{charging}
+use Rattle.state_parts.specs.Stages.{charging}
 use Rattle.report_state.specs.Report.{currentIn, reportOf}
 use Rattle.step_event.specs.Steps.{stepOf}
 use Rattle.laws_account.specs.History.{Run}

@@ -17,7 +17,7 @@ use Rattle.log_event.specs.declared.Event.{Event}
 use Rattle.log_event.specs.declared.Event.the-variants as event
 use Rattle.log_record.specs.Promises.{Spellable}
 use Rattle.state_fields.specs.Rows.{frequencyOk}
-use Rattle.state_start.specs.Values.{startOf}
+use Rattle.state_start.specs.Values.{startState}
 use Rattle.state_settings.specs.Ranges.{knownSetting, mayHold}
 use Rattle.state_valid.specs.Holds.{stateOk}
 use Rattle.state_registers.specs.Reads.{knownAddress}
@@ -102,7 +102,7 @@ unfolding writtenTo
 written s address byte h = h
 
 powered : (p : Profile) → p .stamp < 2 ^ 32 → StampedBy (openedAs p)
-unfolding startOf
+unfolding startState
 powered p k = (k, k)
 
 module _ (s : State) (h : Stamped s) where

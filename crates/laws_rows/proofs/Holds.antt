@@ -31,8 +31,9 @@ use Rattle.report_pages.specs.Text.{linesText, numbersOf}
 use Rattle.log_record.specs.Items.{spellItems, readItems}
 use Rattle.log_record.specs.Records.{spellEvent, recordAt, readRecord}
 use Rattle.state_registers.specs.Reads.{byteAt}
-use Rattle.state_registers.specs.Resets.{resetOf, restored}
-use Rattle.state_registers.specs.Writes.{writeOf, writtenTo, recounted, placed}
+use Rattle.state_registers.specs.Resets.{resetOf, resetRegisters}
+use Rattle.state_registers.specs.Writes.{writeOf, writtenTo, recounted}
+use Rattle.state_fields.specs.Held.{withByte, storedAt, standsAt, fieldOf}
 use Rattle.laws_rows.specs.Rows.{rows, EveryRow}
 use Rattle.settle_permission.specs.Bits.{regulatedOf}
 use Rattle.settle_permission.specs.Ending.{endingOf}
@@ -43,9 +44,9 @@ use Rattle.state_settings.specs.Numbered.{heldOf, settingNumbers, storeOf}
 use Rattle.state_settings.specs.Ranges.{mayHold, rangeOf, ranges}
 use Rattle.report_state.specs.Lines.{lineOf}
 use Rattle.report_state.specs.Report.{reportOf, fastCurrent, inputLimitOf, chargeClampOf}
-use Rattle.state_start.specs.Values.{startOf, startSettings, startVreg, startIchg, startVsysmin}
+use Rattle.state_start.specs.Values.{startState, startSettings, startVreg, startIchg, startVsysmin}
 use Rattle.state_valid.specs.Holds.{stateOk, profileOk, registersOk, cycleOk, watchdogOk, sampleOk}
 
 pub every-row : EveryRow
-unfolding rows linesText wholeOf endText headedText spellEvent numberAt lineText numbersOf pageOf startWalk stepOf spellItems readNumber decimal walkOf heldOf reportOf firstOf stateOk movedOf readGroups decimalBy recordAt settingNumbers fastCurrent chargeVoltageOf inputLimitOf profileOk settingsOk registersOk cycleOk watchdogOk sampleOk setOf observeOf spell readRecord chargeClampOf shareOf baseOf inPack cutOf mayHold finishOf storeOf writeOf observedOf resetOf groups metBy packClampOf settleOf startOf shownOf rangeOf edgesOf merged pulseOf writtenTo countedOf expiredOf clearedIf timesOf unitsOf startSettings restored lineOf readItems forcedOf latchesOf bandOf settledOf testsOf fieldsAt ranges seenOf recounted placed takenOf byteAt regulatedOf startVreg startIchg startVsysmin flagsNumber eventOf faultOf shortOf lowOf packOverOf cycleOf phaseOf permittedOf suspendsOf belowRecharge taperOf endingOf fields reachedOf signedOf belowShare clearsOf endsOf judgedOf restartsOf turnedBy changeOf followedOf writtenOf turnOf profileInRange sampleInRange seenOn
+unfolding rows linesText wholeOf endText headedText spellEvent numberAt lineText numbersOf pageOf startWalk stepOf spellItems readNumber decimal walkOf heldOf reportOf firstOf stateOk movedOf readGroups decimalBy recordAt settingNumbers fastCurrent chargeVoltageOf inputLimitOf profileOk settingsOk registersOk cycleOk watchdogOk sampleOk setOf observeOf spell readRecord chargeClampOf shareOf baseOf inPack cutOf mayHold finishOf storeOf writeOf observedOf resetOf groups metBy packClampOf settleOf startState shownOf rangeOf edgesOf merged pulseOf writtenTo countedOf expiredOf clearedIf timesOf unitsOf startSettings resetRegisters lineOf readItems forcedOf latchesOf bandOf settledOf testsOf fieldsAt ranges seenOf recounted withByte storedAt standsAt fieldOf takenOf byteAt regulatedOf startVreg startIchg startVsysmin flagsNumber eventOf faultOf shortOf lowOf packOverOf cycleOf phaseOf permittedOf suspendsOf belowRecharge taperOf endingOf fields reachedOf signedOf belowShare clearsOf endsOf judgedOf restartsOf turnedBy changeOf followedOf writtenOf turnOf profileInRange sampleInRange seenOn
 every-row = (refl, (refl, (refl, (refl, (refl, (refl, (refl, (refl, (refl, (refl, tt))))))))))

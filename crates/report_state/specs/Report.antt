@@ -4,9 +4,10 @@ use mathlib.Core.Bool.{not}
 use lib.Dec.{ltb}
 use Rattle.settle_bands.specs.Effect.{shareOf}
 use Rattle.base.specs.Pick.{pick}
-use Rattle.base.specs.declared.units.PackMv.{PackMv}
+use Rattle.base.specs.Volts.{packOf}
 use Rattle.settle_levels.specs.Voltage.{chargeVoltageOf}
 use Rattle.state_parts.specs.Pins.{ichgOf}
+use Rattle.state_parts.specs.Stages.{charging}
 use Rattle.state_parts.specs.declared.band.Band.{Band}
 use Rattle.state_parts.specs.declared.phase.Phase.{Phase}
 use Rattle.state_parts.specs.declared.phase.Phase.the-variants.{Idle, Trickle, Precharge, Fast, Taper, Done, Suspended, Fault}
@@ -22,28 +23,22 @@ chargeClampOf p g = pick (g .ichgoverride) 3300 (ichgOf p)
 
 -- "else the lower of ICHG and clamp, times 20, 40, 100% in cool (ISETC 1-3), 40 or 100% in warm"
 unfoldable pub fastCurrent : Profile → Settings → Registers → Band → ℕ
-fastCurrent p s g b = min (s .ichg) (chargeClampOf p g) * shareOf g b / 100
+fastCurrent p s g b = min (s .ichg) (chargeClampOf p g) * shareOf p g b / 100
+
+-- "Current: 100;"
+abbrev pub trickleCurrent : Profile → ℕ
+trickleCurrent p = 100
 
 -- "Phases 1-4 report current and voltage, others zeros." "Current: 100; IPRECHG; else .."
-abbrev pub currentIn : Phase → ℕ → ℕ → ℕ
-currentIn Idle precharge fast = 0
-currentIn Trickle precharge fast = 100
-currentIn Precharge precharge fast = precharge
-currentIn Fast precharge fast = fast
-currentIn Taper precharge fast = fast
-currentIn Done precharge fast = 0
-currentIn Suspended precharge fast = 0
-currentIn Fault precharge fast = 0
-
-abbrev pub voltageIn : Phase → PackMv → PackMv → PackMv
-voltageIn Idle charge none = none
-voltageIn Trickle charge none = charge
-voltageIn Precharge charge none = charge
-voltageIn Fast charge none = charge
-voltageIn Taper charge none = charge
-voltageIn Done charge none = none
-voltageIn Suspended charge none = none
-voltageIn Fault charge none = none
+abbrev pub currentIn : Phase → ℕ → ℕ → ℕ → ℕ
+currentIn Idle trickle precharge fast = 0
+currentIn Trickle trickle precharge fast = trickle
+currentIn Precharge trickle precharge fast = precharge
+currentIn Fast trickle precharge fast = fast
+currentIn Taper trickle precharge fast = fast
+currentIn Done trickle precharge fast = 0
+currentIn Suspended trickle precharge fast = 0
+currentIn Fault trickle precharge fast = 0
 
 -- "Input limit: IINDPM, or with EN_EXTILIM and ohms above 0 the lower of it and floor(3,333,000/ohms)."
 unfoldable pub inputLimitOf : Profile → Settings → ℕ
@@ -52,7 +47,7 @@ inputLimitOf p s = pick (not (s .enextilim)) (s .iindpm) (pick (ltb (p .ohms) 1)
 unfoldable pub reportOf : State → Report
 reportOf s = record {
   phase = s .phase;
-  current = currentIn (s .phase) (s .settings .iprechg) (fastCurrent (s .profile) (s .settings) (s .registers) (s .band));
-  voltage = voltageIn (s .phase) (chargeVoltageOf (s .profile) (s .settings) (s .registers) (s .band)) (record { 0 = 0 });
+  current = currentIn (s .phase) (trickleCurrent (s .profile)) (s .settings .iprechg) (fastCurrent (s .profile) (s .settings) (s .registers) (s .band));
+  voltage = pick (charging (s .phase)) (chargeVoltageOf (s .profile) (s .settings) (s .registers) (s .band)) (packOf 0);
   limit = inputLimitOf (s .profile) (s .settings);
 }

@@ -1,13 +1,14 @@
 // The report: phase, charge current, charge voltage and input limit.
 ghost use mathlib.Core.Path.{_≡_};
 ghost use Prim.Native.Nat.{min};
-ghost use Rattle.base.specs.Pick.{pick};
-ghost use Rattle.report_state.specs.Report.{chargeClampOf, fastCurrent, currentIn, voltageIn, inputLimitOf, reportOf};
+ghost use Rattle.report_state.specs.Report.{chargeClampOf, fastCurrent, trickleCurrent, currentIn, inputLimitOf, reportOf};
 use crate::answer::Report;
-use base::units::PackMv;
+use base::choice;
+use base::volts;
 use settle_bands::effect;
 use settle_levels::voltage;
 use state_parts::band::Band;
+use state_parts::phase;
 use state_parts::phase::Phase;
 use state_parts::pins;
 use state_parts::profile::Profile;
@@ -27,13 +28,7 @@ fn charge_clamp(profile: Profile, registers: Registers) -> u32
 {
     let lifted = registers.ichgoverride;
     let pin = pins::ichg(profile);
-    choose(lifted, 3300, pin)
-}
-
-fn choose(test: bool, first: u32, second: u32) -> u32
-    ensures { λ r. ⌜ r ≡ pick test first second ⌝ }
-{
-    if test { first } else { second }
+    choice::number(lifted, 3300, pin)
 }
 
 // The current of phases 3 and 4: all that ICHG reaches.
@@ -42,38 +37,30 @@ fn fast_current(profile: Profile, settings: Settings, registers: Registers, band
 {
     let ichg = settings.ichg;
     let clamp = charge_clamp(profile, registers);
-    let share = effect::share(registers, band);
+    let share = effect::share(profile, registers, band);
     let whole = lower(ichg, clamp);
     ((whole as u64) * (share as u64) / 100) as u32
 }
 
-fn current_in(phase: Phase, precharge: u32, fast: u32) -> u32
-    ensures { λ r. ⌜ r ≡ currentIn phase precharge fast ⌝ }
+// The current of trickle, in mA.
+fn trickle_current(profile: Profile) -> u32
+    ensures { λ r. ⌜ r ≡ trickleCurrent profile ⌝ }
+{
+    100
+}
+
+fn current_in(phase: Phase, trickle: u32, precharge: u32, fast: u32) -> u32
+    ensures { λ r. ⌜ r ≡ currentIn phase trickle precharge fast ⌝ }
 {
     match phase {
         Phase::Idle => 0,
-        Phase::Trickle => 100,
+        Phase::Trickle => trickle,
         Phase::Precharge => precharge,
         Phase::Fast => fast,
         Phase::Taper => fast,
         Phase::Done => 0,
         Phase::Suspended => 0,
         Phase::Fault => 0,
-    }
-}
-
-fn voltage_in(phase: Phase, charge: PackMv, none: PackMv) -> PackMv
-    ensures { λ r. ⌜ r ≡ voltageIn phase charge none ⌝ }
-{
-    match phase {
-        Phase::Idle => none,
-        Phase::Trickle => charge,
-        Phase::Precharge => charge,
-        Phase::Fast => charge,
-        Phase::Taper => charge,
-        Phase::Done => none,
-        Phase::Suspended => none,
-        Phase::Fault => none,
     }
 }
 
@@ -102,14 +89,17 @@ pub fn report(state: State) -> Report
     let band = state.band;
     let precharge = settings.iprechg;
     let fast = fast_current(profile, settings, registers, band);
-    let current = current_in(phase, precharge, fast);
+    let trickle = trickle_current(profile);
+    let current = current_in(phase, trickle, precharge, fast);
     let charge = voltage::charge_voltage(profile, settings, registers, band);
-    let volts = voltage_in(phase, charge, PackMv(0));
+    let charges = phase::charging(phase);
+    let none = volts::pack(0);
+    let voltage = volts::either(charges, charge, none);
     let limit = input_limit(profile, settings);
     Report {
         phase: phase,
         current: current,
-        voltage: volts,
+        voltage: voltage,
         limit: limit,
     }
 }

@@ -3,22 +3,17 @@ ghost use mathlib.Core.Path.{_≡_};
 ghost use Rattle.base.specs.Pick.{pick};
 ghost use Rattle.report_state.specs.Stats.{statIn, statOf, statNumber};
 use crate::answer::Stat;
+use state_parts::phase;
 use state_parts::phase::Phase;
 use state_parts::state::State;
 
 fn stat_in(phase: Phase) -> Stat
     ensures { λ r. ⌜ r ≡ statIn phase ⌝ }
 {
-    match phase {
-        Phase::Idle => Stat::High,
-        Phase::Trickle => Stat::Low,
-        Phase::Precharge => Stat::Low,
-        Phase::Fast => Stat::Low,
-        Phase::Taper => Stat::Low,
-        Phase::Done => Stat::High,
-        Phase::Suspended => Stat::Blinking,
-        Phase::Fault => Stat::Blinking,
-    }
+    let number = phase::number(phase);
+    let charging = phase::charging(phase);
+    let other = choose_stat(6 <= number, Stat::Blinking, Stat::High);
+    choose_stat(charging, Stat::Low, other)
 }
 
 fn choose_stat(test: bool, first: Stat, second: Stat) -> Stat

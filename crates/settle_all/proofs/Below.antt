@@ -4,12 +4,13 @@ use mathlib.Core.Bool.{Bool, true, false, _||_, true≢false}
 use Rattle.settle_bands.specs.Thresholds.{bandOf}
 use Rattle.base.specs.Pick.{pick}
 use Rattle.settle_levels.specs.Comparators.{latchesOf}
+use Rattle.state_parts.specs.Stages.{charging}
 use Rattle.state_parts.specs.declared.band.Band.{Band}
 use Rattle.state_parts.specs.declared.latches.Latches.{Latches}
 use Rattle.state_parts.specs.declared.state.State.{State}
 use Rattle.settle_phases.proofs.Clean.{charging-clean}
 use Rattle.settle_phases.specs.Cycles.{cycleOf}
-use Rattle.settle_phases.specs.Order.{charging, clearsOf, phaseOf}
+use Rattle.settle_phases.specs.Order.{clearsOf, phaseOf}
 use Rattle.settle_phases.specs.declared.tests.Tests.{Tests}
 use Rattle.settle_permission.proofs.Cleared.{reached-cleared}
 use Rattle.settle_permission.specs.Bits.{shutdownOf}
@@ -42,4 +43,4 @@ pub below-limits : BelowLimits
 unfolding settleOf settledOf forcedOf
 below-limits s o =
     let f = forcedOf s in
-    below f (latchesOf (f .profile) (f .settings) (f .registers) (f .sample) (f .latches)) (bandOf (f .registers) (f .sample .ts)) o
+    below f (latchesOf (f .profile) (f .settings) (f .registers) (f .sample) (f .latches)) (bandOf (f .profile) (f .registers) (f .sample .ts)) o

@@ -55,8 +55,8 @@ module _ (s : State) (k : Latches) (b : Band) (o : Bool) where
   unfolding testsOf
   judged-again =
       same o (isTaper (s .phase)) (endingOf (s .settings) (s .sample)) (s .cycle .trickle) (s .cycle .precharge) (s .cycle .fast) _ refl
-      (permittedOf (s .profile) (s .settings) (s .registers) (s .sample) k) stays (reachedOf (s .profile) (s .cycle)) (suspendsOf (s .registers) b) (s .cycle .done)
-      (belowRecharge (s .settings) (baseOf (s .profile) (s .settings) (s .registers)) (s .sample)) (k .short) (k .low)
+      (permittedOf (s .profile) (s .settings) (s .registers) (s .sample) k) stays (reachedOf (s .profile) (s .cycle)) (suspendsOf (s .profile) (s .registers) b) (s .cycle .done)
+      (belowRecharge (s .profile) (s .settings) (baseOf (s .profile) (s .settings) (s .registers)) (s .sample)) (k .short) (k .low)
       (taperOf (chargeVoltageOf (s .profile) (s .settings) (s .registers) b) (s .sample))
 
   kept : settledOf (settledOf s k b t) k b u ≡ settledOf s k b t
@@ -72,4 +72,4 @@ settles-once s o =
     let fault = faultOf (s .profile) (s .registers) in
     let settings = storedOf fault (s .settings) in
     let k = latchesOf (s .profile) settings (s .registers) (s .sample) (s .latches) in
-    simp (stored-again fault (s .settings), latches-rest (s .profile) settings (s .registers) (s .sample) (s .latches)) (settled-again (forcedOf s) k (bandOf (s .registers) (s .sample .ts)) o)
+    simp (stored-again fault (s .settings), latches-rest (s .profile) settings (s .registers) (s .sample) (s .latches)) (settled-again (forcedOf s) k (bandOf (s .profile) (s .registers) (s .sample .ts)) o)

@@ -25,9 +25,9 @@ unfoldable pub testsOf : State → Latches → Band → Bool → Tests
 testsOf s k b observed = record {
   permitted = permittedOf (s .profile) (s .settings) (s .registers) (s .sample) k;
   fault = badOf (s .profile) (s .sample) k (s .cycle);
-  suspended = suspendsOf (s .registers) b;
+  suspended = suspendsOf (s .profile) (s .registers) b;
   done = s .cycle .done;
-  recharge = belowRecharge (s .settings) (baseOf (s .profile) (s .settings) (s .registers)) (s .sample);
+  recharge = belowRecharge (s .profile) (s .settings) (baseOf (s .profile) (s .settings) (s .registers)) (s .sample);
   short = k .short;
   low = k .low;
   taper = taperOf (chargeVoltageOf (s .profile) (s .settings) (s .registers) b) (s .sample);

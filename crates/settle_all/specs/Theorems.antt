@@ -4,9 +4,10 @@ use mathlib.Core.Bool.{Bool, true, false}
 use Rattle.settle_bands.specs.Thresholds.{bandOf}
 use Rattle.settle_levels.specs.Clamps.{faultOf}
 use Rattle.settle_levels.specs.Comparators.{latchesOf}
+use Rattle.state_parts.specs.Stages.{charging}
 use Rattle.state_parts.specs.declared.state.State.{State}
 use Rattle.settle_phases.specs.Cycles.{cycleOf}
-use Rattle.settle_phases.specs.Order.{charging, phaseOf}
+use Rattle.settle_phases.specs.Order.{phaseOf}
 use Rattle.settle_phases.specs.declared.tests.Tests.{Tests}
 use Rattle.settle_permission.specs.Limits.{reachedOf}
 use Rattle.settle_all.specs.Gather.{testsOf}
@@ -34,7 +35,7 @@ testedOf s observed = testsOf (forcedOf s) (settleOf s observed .latches) (settl
 
 pub record Moved (s : State) (observed : Bool) : Type 0 where
   pub latches : settleOf s observed .latches ≡ latchesOf (s .profile) (s .settings) (s .registers) (s .sample) (s .latches)
-  pub band : settleOf s observed .band ≡ bandOf (s .registers) (s .sample .ts)
+  pub band : settleOf s observed .band ≡ bandOf (s .profile) (s .registers) (s .sample .ts)
   pub cycle : settleOf s observed .cycle ≡ cycleOf (testedOf s observed) (s .cycle)
   pub phase : settleOf s observed .phase ≡ phaseOf (testedOf s observed)
 

@@ -39,9 +39,9 @@ pub(crate) fn gather(state: State, latches: Latches, band: Band, observed: bool)
     let phase = state.phase;
     let permitted = permission::permitted(profile, settings, registers, sample, latches);
     let fault = is_bad(profile, sample, latches, cycle);
-    let suspended = effect::suspends(registers, band);
+    let suspended = effect::suspends(profile, registers, band);
     let base = clamps::base(profile, settings, registers);
-    let recharge = voltage::below_recharge(settings, base, sample);
+    let recharge = voltage::below_recharge(profile, settings, base, sample);
     let charge = voltage::charge_voltage(profile, settings, registers, band);
     let taper = voltage::tapers(charge, sample);
     let tapered = order::is_taper(phase);

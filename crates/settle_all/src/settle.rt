@@ -75,7 +75,7 @@ pub fn settle(state: State, observed: bool) -> State
     let ts = sample.ts;
     let was = start.latches;
     let latches = comparators::latches(profile, settings, registers, sample, was);
-    let band = thresholds::band_at(registers, ts);
+    let band = thresholds::band_at(profile, registers, ts);
     let t = gather::gather(start, latches, band, observed);
     settled(start, latches, band, t)
 }

@@ -3,13 +3,14 @@ use mathlib.Core.Path.{_≡_, refl}
 use mathlib.Core.Bool.{Bool, true, false, not, _&&_, _||_}
 use lib.Dec.{leb}
 use Rattle.base.specs.Units.{inPack, below, belowShare}
+use Rattle.base.specs.Volts.{packOf}
 use Rattle.state_parts.specs.declared.latches.Latches.{Latches}
 use Rattle.state_parts.specs.declared.profile.Profile.{Profile}
 use Rattle.state_parts.specs.declared.registers.Registers.{Registers}
 use Rattle.state_parts.specs.declared.sample.Sample.{Sample}
 use Rattle.state_parts.specs.declared.settings.Settings.{Settings}
 use Rattle.settle_levels.specs.Clamps.{faultOf, baseOf}
-use Rattle.settle_levels.specs.Comparators.{held, packOf, shortReturns, shortEnds, shortOf, lowReturns, lowEnds, lowOf, packOverOf, latchesOf}
+use Rattle.settle_levels.specs.Comparators.{held, shortReturns, shortEnds, shortOf, lowReturns, lowEnds, lowOf, packOverOf, latchesOf}
 
 rest : (begins stays was : Bool) → held begins stays (held begins stays was) ≡ held begins stays was
 rest true stays was = refl
@@ -32,11 +33,11 @@ unfolding latchesOf shortOf lowOf packOverOf
 latches-rest p s g x k =
     let f = faultOf p g in
     let base = baseOf p s g in
-    let all = packOf x in
+    let all = packOf (x .pack) in
     simp (
       rest (leb 2900 (x .input)) (leb 2350 (x .input)) (k .inputok),
       rest (leb 36300 (x .input)) (leb 34500 (x .input)) (k .inputover),
-      on-rest f (below all (inPack (shortReturns g) (g .cells))) (below all (inPack (shortEnds g) (g .cells))) (k .short),
-      on-rest f (belowShare all base (lowReturns s)) (belowShare all base (lowEnds s)) (k .low),
+      on-rest f (below all (inPack (shortReturns p g) (g .cells))) (below all (inPack (shortEnds p g) (g .cells))) (k .short),
+      on-rest f (belowShare all base (lowReturns p s)) (belowShare all base (lowEnds p s)) (k .low),
       off-rest f (not (belowShare all base 1040)) (not (belowShare all base 1020)) (k .packover),
     )

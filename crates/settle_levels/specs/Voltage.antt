@@ -5,6 +5,7 @@ use mathlib.Core.List.{[], _∷_}
 use lib.ListN.{getD}
 use Rattle.settle_bands.specs.Effect.{cutOf}
 use Rattle.base.specs.Units.{inPack, lessOf, belowShare, within}
+use Rattle.base.specs.Volts.{packOf}
 use Rattle.base.specs.declared.units.PackMv.{PackMv}
 use Rattle.state_parts.specs.declared.band.Band.{Band}
 use Rattle.state_parts.specs.declared.profile.Profile.{Profile}
@@ -12,22 +13,21 @@ use Rattle.state_parts.specs.declared.registers.Registers.{Registers}
 use Rattle.state_parts.specs.declared.sample.Sample.{Sample}
 use Rattle.state_parts.specs.declared.settings.Settings.{Settings}
 use Rattle.settle_levels.specs.Clamps.{baseOf}
-use Rattle.settle_levels.specs.Comparators.{packOf}
 
 -- "Charge voltage: base, less in warm 250, 100 or 0 per cell (JEITA_VSET 1-3)."
 unfoldable pub chargeVoltageOf : Profile → Settings → Registers → Band → PackMv
-chargeVoltageOf p s g b = lessOf (baseOf p s g) (inPack (cutOf g b) (g .cells))
+chargeVoltageOf p s g b = lessOf (baseOf p s g) (inPack (cutOf p g b) (g .cells))
 
 -- "4 taper, VBAT + 10 >= charge voltage"
 unfoldable pub taperOf : PackMv → Sample → Bool
-taperOf charge x = within (packOf x) charge 10
+taperOf charge x = within (packOf (x .pack)) charge 10
 
 -- "VBAT is below 92.7, 94.1, 95.5, 97% of base by VRECHG 0-3"; the whole is what the share is taken of
-abbrev pub rechargeShareAt : ℕ → ℕ
-rechargeShareAt code = getD (927 ∷ 941 ∷ 955 ∷ 970 ∷ []) code 0
+abbrev pub rechargeShareAt : Profile → ℕ → ℕ
+rechargeShareAt p code = getD (927 ∷ 941 ∷ 955 ∷ 970 ∷ []) code 0
 
-abbrev pub rechargeShare : Settings → ℕ
-rechargeShare s = rechargeShareAt (s .vrechg % 4)
+abbrev pub rechargeShare : Profile → Settings → ℕ
+rechargeShare p s = rechargeShareAt p (s .vrechg % 4)
 
-unfoldable pub belowRecharge : Settings → PackMv → Sample → Bool
-belowRecharge s whole x = belowShare (packOf x) whole (rechargeShare s)
+unfoldable pub belowRecharge : Profile → Settings → PackMv → Sample → Bool
+belowRecharge p s whole x = belowShare (packOf (x .pack)) whole (rechargeShare p s)

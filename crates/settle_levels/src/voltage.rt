@@ -2,10 +2,10 @@
 ghost use mathlib.Core.Path.{_≡_};
 ghost use Rattle.settle_levels.specs.Voltage.{chargeVoltageOf, taperOf, belowRecharge};
 use crate::clamps;
-use crate::comparators;
 use base::entry;
 use base::units;
 use base::units::PackMv;
+use base::volts;
 use settle_bands::effect;
 use state_parts::band::Band;
 use state_parts::profile::Profile;
@@ -24,7 +24,7 @@ pub fn charge_voltage(
 {
     let cells = registers.cells;
     let base = clamps::base(profile, settings, registers);
-    let each = effect::cut(registers, band);
+    let each = effect::cut(profile, registers, band);
     let all = units::in_pack(each, cells);
     units::less(base, all)
 }
@@ -33,15 +33,15 @@ pub fn charge_voltage(
 pub fn tapers(charge: PackMv, sample: Sample) -> bool
     ensures { λ r. ⌜ r ≡ taperOf charge sample ⌝ }
 {
-    let now = comparators::pack(sample);
+    let now = volts::pack(sample.pack);
     units::is_within(now, charge, 10)
 }
 
 // Whether VBAT is below the recharge point.
-pub fn below_recharge(settings: Settings, whole: PackMv, sample: Sample) -> bool
-    ensures { λ r. ⌜ r ≡ belowRecharge settings whole sample ⌝ }
+pub fn below_recharge(profile: Profile, settings: Settings, whole: PackMv, sample: Sample) -> bool
+    ensures { λ r. ⌜ r ≡ belowRecharge profile settings whole sample ⌝ }
 {
     let share = entry::of_four(settings.vrechg, 927, 941, 955, 970);
-    let now = comparators::pack(sample);
+    let now = volts::pack(sample.pack);
     units::is_below_share(now, whole, share)
 }

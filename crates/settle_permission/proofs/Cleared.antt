@@ -1,17 +1,18 @@
--- Where no time has run, no limit is reached.
-use Prim.Native.Nat.{ℕ, zero, suc, _*_}
+-- If no time has run, no limit is reached.
+use Prim.Native.Nat.{ℕ, zero, suc}
 use mathlib.Core.Path.{_≡_, refl}
 use mathlib.Core.Bool.{Bool, true, false}
 use native.Mathlib.Omega.{arith}
 use borrow.Author.Tests.{lt-leb, ne-eqb}
 use Rattle.base.specs.Pick.{pick}
+use Rattle.state_parts.specs.Stages.{limitUnits}
 use Rattle.state_parts.specs.declared.cycle.Cycle.{Cycle}
 use Rattle.state_parts.specs.declared.profile.Profile.{Profile}
 use Rattle.settle_permission.specs.Limits.{limitReached, reachedOf}
 
 none-reached : (limit : ℕ) → limitReached limit 0 ≡ false
 none-reached zero = refl
-none-reached (suc n) = simp (ne-eqb (suc n) 0 (λ e. omega arith), lt-leb (suc n * 2000) 0 (omega arith))
+none-reached (suc n) = simp (ne-eqb (suc n) 0 (λ e. omega arith), lt-leb (limitUnits (suc n)) 0 (omega arith))
 
 -- times that a test clears
 pub reached-cleared : (p : Profile) (c : Cycle) (done test : Bool)

@@ -1,6 +1,7 @@
 // The stages' time limits.
 ghost use mathlib.Core.Path.{_≡_};
 ghost use Rattle.settle_permission.specs.Limits.{limitReached, reachedOf};
+use state_parts::cycle;
 use state_parts::cycle::Cycle;
 use state_parts::profile::Profile;
 
@@ -8,7 +9,8 @@ use state_parts::profile::Profile;
 fn limit_reached(limit: u32, units: u32) -> bool
     ensures { λ r. ⌜ r ≡ limitReached limit units ⌝ }
 {
-    (limit != 0) & ((limit as u64) * 2000 <= units as u64)
+    let top = cycle::limit_units(limit);
+    (limit != 0) & (top <= units as u64)
 }
 
 // Whether any stage has reached its limit.

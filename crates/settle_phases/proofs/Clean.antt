@@ -1,7 +1,8 @@
--- Where a charge runs, it is permitted and nothing is a fault.
+-- If a charge runs, it is permitted and nothing is a fault.
 use mathlib.Core.Path.{_≡_, refl}
 use mathlib.Core.Bool.{Bool, true, false, false≢true}
-use Rattle.settle_phases.specs.Order.{charging, judgedOf, endsOf, phaseOf}
+use Rattle.state_parts.specs.Stages.{charging}
+use Rattle.settle_phases.specs.Order.{judgedOf, endsOf, phaseOf}
 use Rattle.settle_phases.specs.declared.tests.Tests.{Tests}
 
 clean : (t : Tests) (p f : Bool) → t .permitted ≡ p → t .fault ≡ f → charging (phaseOf t) ≡ true → (p ≡ true) × (f ≡ false)

@@ -3,7 +3,7 @@ use mathlib.Core.Bool.{Bool, false, not, _&&_, _||_}
 use Rattle.settle_phases.specs.Order.{isTaper, clearsOf, endsOf, phaseOf}
 use Rattle.settle_phases.specs.declared.tests.Tests.{Tests}
 
--- `fault` is what then stands for a fault: a limit is no longer reached where the times were cleared
+-- `fault` is what then stands for a fault: a limit is no longer reached once the times are cleared
 unfoldable pub afterOf : Tests → Bool → Tests
 afterOf t fault = record {
   permitted = t .permitted;

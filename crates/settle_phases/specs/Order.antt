@@ -15,17 +15,6 @@ isTaper Done = false
 isTaper Suspended = false
 isTaper Fault = false
 
--- "Phases 1-4"
-abbrev pub charging : Phase → Bool
-charging Idle = false
-charging Trickle = true
-charging Precharge = true
-charging Fast = true
-charging Taper = true
-charging Done = false
-charging Suspended = false
-charging Fault = false
-
 -- "Phase, first that holds: 0 idle, no permission; 7 fault, ..; 6 suspended, ..; 5 done; 1 trickle (short); 2 precharge (low); 4 taper, ..; 3 fast."
 abbrev pub firstPhase : Bool → Bool → Bool → Bool → Bool → Bool → Bool → Phase
 firstPhase permitted fault suspended done short low taper =

@@ -2,10 +2,15 @@
 ghost use mathlib.Core.Path.{_≡_};
 ghost use Rattle.state_fields.specs.Rows.{shownOf, takenOf, frequencyOk};
 use base::choice;
+use state_parts::profile::Profile;
+
+pub mod digits;
+pub mod held;
+pub mod named;
 
 // The byte that stands at an address after a write; `count` says that a written cell count is taken.
-pub fn taken(count: bool, address: u32, held: u8, written: u8) -> u8
-    ensures { λ r. ⌜ r ≡ takenOf count address held written ⌝ }
+pub fn taken(p: Profile, count: bool, address: u32, held: u8, written: u8) -> u8
+    ensures { λ r. ⌜ r ≡ takenOf p count address held written ⌝ }
 {
     let cells = choice::byte(count, written, held);
     match address {
@@ -22,15 +27,16 @@ pub fn taken(count: bool, address: u32, held: u8, written: u8) -> u8
 }
 
 // What the host sees of a byte that stands at an address: what would stand if it were written over itself.
-pub fn shown(address: u32, held: u8) -> u8
-    ensures { λ r. ⌜ r ≡ shownOf address held ⌝ }
+pub fn shown(p: Profile, address: u32, held: u8) -> u8
+    ensures { λ r. ⌜ r ≡ shownOf p address held ⌝ }
 {
-    taken(true, address, held, held)
+    taken(p, true, address, held, held)
 }
 
 // A byte of 0x16 whose FSW has a frequency.
-pub fn frequency_ok(byte: u8) -> bool
-    ensures { λ r. ⌜ r ≡ frequencyOk byte ⌝ }
+pub fn frequency_ok(p: Profile, byte: u8) -> bool
+    ensures { λ r. ⌜ r ≡ frequencyOk p byte ⌝ }
 {
-    (1 <= byte % 8) & (byte % 8 <= 6)
+    let code = digits::fsw(byte);
+    (1 <= code) & (code <= 6)
 }

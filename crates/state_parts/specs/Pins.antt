@@ -1,6 +1,6 @@
 -- 01: "Pin codes (0 is a fault): cells 1-7; vchg 3,500 3,600 4,000 4,100 4,200 4,300 4,350 per cell; ichg 100 500 1,000 1,500 2,000 2,500 3,300."
 use Prim.Native.Nat.{ℕ, _%_}
-use mathlib.Core.List.{List, [], _∷_}
+use mathlib.Core.List.{[], _∷_}
 use lib.ListN.{getD}
 use Rattle.base.specs.declared.units.CellMv.{CellMv}
 use Rattle.state_parts.specs.declared.profile.Profile.{Profile}

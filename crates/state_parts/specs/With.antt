@@ -1,4 +1,7 @@
--- A state with one part changed, and every other as it was.
+-- A state, settings or registers with one part changed, and every other as it was.
+use Prim.Native.Nat.{ℕ}
+use mathlib.Core.Bool.{Bool}
+use Rattle.base.specs.declared.units.PackMv.{PackMv}
 use Rattle.state_parts.specs.declared.cycle.Cycle.{Cycle}
 use Rattle.state_parts.specs.declared.flags.Flags.{Flags}
 use Rattle.state_parts.specs.declared.latches.Latches.{Latches}
@@ -104,4 +107,84 @@ withFlags s f = record {
   phase = s .phase;
   band = s .band;
   flags = f;
+}
+
+abbrev pub withEnchg : Settings → Bool → Settings
+withEnchg t enchg = record {
+  vreg = t .vreg;
+  ichg = t .ichg;
+  iprechg = t .iprechg;
+  iterm = t .iterm;
+  iindpm = t .iindpm;
+  vsysmin = t .vsysmin;
+  lowv = t .lowv;
+  vrechg = t .vrechg;
+  enchg = enchg;
+  enterm = t .enterm;
+  enhiz = t .enhiz;
+  enextilim = t .enextilim;
+  disstat = t .disstat;
+  masks = t .masks;
+}
+
+-- VREG and VSYSMIN, which a cell count moves together
+abbrev pub withVolts : Settings → PackMv → PackMv → Settings
+withVolts t vreg vsysmin = record {
+  vreg = vreg;
+  ichg = t .ichg;
+  iprechg = t .iprechg;
+  iterm = t .iterm;
+  iindpm = t .iindpm;
+  vsysmin = vsysmin;
+  lowv = t .lowv;
+  vrechg = t .vrechg;
+  enchg = t .enchg;
+  enterm = t .enterm;
+  enhiz = t .enhiz;
+  enextilim = t .enextilim;
+  disstat = t .disstat;
+  masks = t .masks;
+}
+
+abbrev pub withR19 : Registers → ℕ → Registers
+withR19 g byte = record {
+  r15 = g .r15;
+  r16 = g .r16;
+  r17 = g .r17;
+  r18 = g .r18;
+  r19 = byte;
+  r1a = g .r1a;
+  cells = g .cells;
+  vchgoverride = g .vchgoverride;
+  celloverride = g .celloverride;
+  ichgoverride = g .ichgoverride;
+}
+
+abbrev pub withCells : Registers → ℕ → Registers
+withCells g cells = record {
+  r15 = g .r15;
+  r16 = g .r16;
+  r17 = g .r17;
+  r18 = g .r18;
+  r19 = g .r19;
+  r1a = g .r1a;
+  cells = cells;
+  vchgoverride = g .vchgoverride;
+  celloverride = g .celloverride;
+  ichgoverride = g .ichgoverride;
+}
+
+-- the overrides of VCHG, CELL and ICHG
+abbrev pub withOverrides : Registers → Bool → Bool → Bool → Registers
+withOverrides g vchg cell ichg = record {
+  r15 = g .r15;
+  r16 = g .r16;
+  r17 = g .r17;
+  r18 = g .r18;
+  r19 = g .r19;
+  r1a = g .r1a;
+  cells = g .cells;
+  vchgoverride = vchg;
+  celloverride = cell;
+  ichgoverride = ichg;
 }

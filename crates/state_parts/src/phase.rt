@@ -1,6 +1,7 @@
 // The phase of a charge.
 ghost use mathlib.Core.Path.{_≡_};
 ghost use Rattle.state_parts.specs.Numbers.{phaseNumber};
+ghost use Rattle.state_parts.specs.Stages.{inTrickle, inPrecharge, inFast, charging};
 
 pub enum Phase {
     Idle,
@@ -27,4 +28,34 @@ pub fn number(p: Phase) -> u32
         Phase::Suspended => 6,
         Phase::Fault => 7,
     }
+}
+
+// Whether a phase is in the trickle stage.
+pub fn in_trickle(p: Phase) -> bool
+    ensures { λ r. ⌜ r ≡ inTrickle p ⌝ }
+{
+    number(p) == 1
+}
+
+// Whether a phase is in the precharge stage.
+pub fn in_precharge(p: Phase) -> bool
+    ensures { λ r. ⌜ r ≡ inPrecharge p ⌝ }
+{
+    number(p) == 2
+}
+
+// Whether a phase is in the stage that fast and taper share.
+pub fn in_fast(p: Phase) -> bool
+    ensures { λ r. ⌜ r ≡ inFast p ⌝ }
+{
+    let n = number(p);
+    (n == 3) | (n == 4)
+}
+
+// Whether a phase charges.
+pub fn charging(p: Phase) -> bool
+    ensures { λ r. ⌜ r ≡ charging p ⌝ }
+{
+    let n = number(p);
+    (1 <= n) & (n <= 4)
 }

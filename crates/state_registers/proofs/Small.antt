@@ -1,4 +1,4 @@
--- A write's byte is narrowed before it is tested, and is itself where the test passes.
+-- A write's byte is narrowed before it is tested, and is itself if the test passes.
 use Prim.Native.Nat.{ℕ, _%_}
 use mathlib.Core.Path.{_≡_, refl, ap, _∙_}
 use mathlib.Core.Bool.{Bool, true, false, not, _&&_}
@@ -22,7 +22,7 @@ narrowed {A} large f byte = go (leb byte 255) refl
 
 pub write-law : (s : State) (a b : ℕ) (there legal : Bool) (after : State) (r : Told State)
     → there ≡ knownAddress a
-    → legal ≡ frequencyOk (b % 256)
+    → legal ≡ frequencyOk (s .profile) (b % 256)
     → after ≡ writtenTo s a (b % 256)
     → r ≡ pick (not there) (refused 10) (pick (not (leb b 255)) (refused 5) (pick (eqb a 0x16 && not legal) (refused 11) (accepted after)))
     → r ≡ writeOf s a b
@@ -31,4 +31,4 @@ write-law s a b there legal after r e1 e2 e3 e4 =
     e4
     ∙ simp (e3, e2, e1)
     (ap (pick (not (knownAddress a)) (refused 10))
-    (narrowed (refused 5) (λ (n : ℕ). pick (eqb a 0x16 && not (frequencyOk n)) (refused 11) (accepted (writtenTo s a n))) b))
+    (narrowed (refused 5) (λ (n : ℕ). pick (eqb a 0x16 && not (frequencyOk (s .profile) n)) (refused 11) (accepted (writtenTo s a n))) b))

@@ -1,13 +1,15 @@
 -- 01, "Registers 0x15-0x1C": what a written byte leaves, and "Model order: 6, 10, 5, 11 for writes". Refusal 6 is the caller's, who has no state to write to then.
-use Prim.Native.Nat.{ℕ, _/_, _%_}
+use Prim.Native.Nat.{ℕ}
 use mathlib.Core.Bool.{Bool, not, _&&_}
 use lib.Dec.{leb, eqb}
 use Rattle.base.specs.Pick.{pick}
 use Rattle.base.specs.Refusals.{refusalNumber}
 use Rattle.base.specs.Told.{Told, accepted, refused}
 use Rattle.base.specs.Units.{inPack}
-use Rattle.state_fields.specs.Rows.{takenOf, frequencyOk}
+use Rattle.state_fields.specs.Held.{withByte}
+use Rattle.state_fields.specs.Rows.{cellPin, fsw, digitOf, takenOf, frequencyOk}
 use Rattle.state_parts.specs.Pins.{vchgOf}
+use Rattle.state_parts.specs.With.{withVolts, withSettings, withRegisters}
 use Rattle.state_start.specs.Values.{startVsysmin}
 use Rattle.state_parts.specs.declared.profile.Profile.{Profile}
 use Rattle.state_parts.specs.declared.registers.Registers.{Registers}
@@ -24,63 +26,23 @@ writeTold (Refused refusal) = refused (refusalNumber refusal)
 
 -- "CELL_PIN takes a written count only if CELL_PIN_OVERRIDE stood before the write, the count is 1-7 and it differs."
 abbrev pub countTaken : Registers → ℕ → ℕ → Bool
-countTaken g address byte = eqb address 0x1B && g .celloverride && not (eqb (byte % 8) 0) && not (eqb (byte % 8) (g .cells))
+countTaken g address byte = eqb address (cellPin .address) && g .celloverride && not (eqb (digitOf cellPin byte) 0) && not (eqb (digitOf cellPin byte) (g .cells))
 
 -- "Then VSYSMIN takes its start value and VREG becomes vchg x count (unchanged if vchg is 0)."
 unfoldable pub recounted : Profile → ℕ → Settings → Settings
-recounted p cells t = record {
-  vreg = pick (eqb (p .vchg) 0) (t .vreg) (inPack (vchgOf p) cells);
-  vsysmin = startVsysmin cells;
-  ichg = t .ichg;
-  iprechg = t .iprechg;
-  iterm = t .iterm;
-  iindpm = t .iindpm;
-  lowv = t .lowv;
-  vrechg = t .vrechg;
-  enchg = t .enchg;
-  enterm = t .enterm;
-  enhiz = t .enhiz;
-  enextilim = t .enextilim;
-  disstat = t .disstat;
-  masks = t .masks;
-}
-
--- a byte that stands at an address now, taken apart into what the registers hold; `count` says that a written count is taken
-unfoldable pub placed : Bool → Registers → ℕ → ℕ → Registers
-placed count g address byte = record {
-  r15 = pick (eqb address 0x15) byte (g .r15);
-  r16 = pick (eqb address 0x16) byte (g .r16);
-  r17 = pick (eqb address 0x17) byte (g .r17);
-  r18 = pick (eqb address 0x18) byte (g .r18);
-  r19 = pick (eqb address 0x19) byte (g .r19);
-  r1a = pick (eqb address 0x1A) byte (g .r1a);
-  cells = pick count (byte % 8) (g .cells);
-  vchgoverride = pick (eqb address 0x1B) (eqb (byte / 128 % 2) 1) (g .vchgoverride);
-  celloverride = pick (eqb address 0x1B) (eqb (byte / 64 % 2) 1) (g .celloverride);
-  ichgoverride = pick (eqb address 0x1C) (eqb (byte / 8 % 2) 1) (g .ichgoverride);
-}
+recounted p cells t = withVolts t (pick (eqb (p .vchg) 0) (t .vreg) (inPack (vchgOf p) cells)) (startVsysmin p cells)
 
 -- the state after a write that isn't refused
 unfoldable pub writtenTo : State → ℕ → ℕ → State
 writtenTo s address byte =
     let count = countTaken (s .registers) address byte in
-    record {
-      profile = s .profile;
-      settings = pick count (recounted (s .profile) (byte % 8) (s .settings)) (s .settings);
-      registers = placed count (s .registers) address (takenOf count address (byteAt s address) byte);
-      latches = s .latches;
-      cycle = s .cycle;
-      watchdog = s .watchdog;
-      sample = s .sample;
-      phase = s .phase;
-      band = s .band;
-      flags = s .flags;
-    }
+    withRegisters (withSettings s (pick count (recounted (s .profile) (digitOf cellPin byte) (s .settings)) (s .settings)))
+    (withByte count (s .registers) address (takenOf (s .profile) count address (byteAt s address) byte))
 
 -- "3 write | address, byte 0-255"; "FSW (0x16 bits 2:0) written 0 or 7"
 unfoldable pub writeOf : State → ℕ → ℕ → Told State
 writeOf s address byte =
     pick (not (knownAddress address)) (refused 10)
     (pick (not (leb byte 255)) (refused 5)
-    (pick (eqb address 0x16 && not (frequencyOk byte)) (refused 11)
+    (pick (eqb address (fsw .address) && not (frequencyOk (s .profile) byte)) (refused 11)
     (accepted (writtenTo s address byte))))

@@ -2,11 +2,9 @@
 ghost use mathlib.Core.Path.{_≡_};
 ghost use Rattle.base.specs.Pick.{pick};
 ghost use Rattle.base.specs.Told.{accepted, refused};
-ghost use Rattle.state_registers.specs.Reads.{readRegisterOf, readTold, knownAddress, byte1B, byte1C, byteAt, readOf};
-use base::choice;
+ghost use Rattle.state_registers.specs.Reads.{readRegisterOf, registerTold, knownAddress, byteAt, readOf};
 use base::refusal::Refusal;
-use state_parts::profile::Profile;
-use state_parts::registers::Registers;
+use state_fields::held;
 use state_parts::state::Model;
 use state_parts::state::State;
 
@@ -22,45 +20,16 @@ pub fn known(address: u32) -> bool
     (0x15 <= address) & (address <= 0x1C)
 }
 
-// The byte of 0x1B, put together.
-fn byte_1b(p: Profile, g: Registers) -> u8
-    ensures { λ r. ⌜ r ≡ byte1B p g ⌝ }
-{
-    let vchg = p.vchg % 8 * 8;
-    let cells = g.cells % 8;
-    let high = choice::bit(g.vchgoverride);
-    let low = choice::bit(g.celloverride);
-    (high * 128 + low * 64 + vchg + cells) as u8
-}
-
-// The byte of 0x1C, put together.
-fn byte_1c(p: Profile, g: Registers) -> u8
-    ensures { λ r. ⌜ r ≡ byte1C p g ⌝ }
-{
-    let ichg = p.ichg % 8;
-    let high = choice::bit(g.ichgoverride);
-    (high * 8 + ichg) as u8
-}
-
 // The byte that stands at an address.
 pub fn byte_at(s: State, address: u32) -> u8
     ensures { λ r. ⌜ r ≡ byteAt s address ⌝ }
 {
-    let g = s.registers;
-    let b1b = byte_1b(s.profile, s.registers);
-    let b1c = byte_1c(s.profile, s.registers);
-    let from1b = choice::byte(address == 0x1B, b1b, b1c);
-    let from1a = choice::byte(address == 0x1A, g.r1a, from1b);
-    let from19 = choice::byte(address == 0x19, g.r19, from1a);
-    let from18 = choice::byte(address == 0x18, g.r18, from19);
-    let from17 = choice::byte(address == 0x17, g.r17, from18);
-    let from16 = choice::byte(address == 0x16, g.r16, from17);
-    choice::byte(address == 0x15, g.r15, from16)
+    held::stands_at(s.profile, s.registers, address)
 }
 
-// The answer with a byte, where the address is known.
+// The answer: the byte if the address is known, else 10.
 fn answered(there: bool, byte: u8) -> ReadAnswer
-    ensures { λ r. ⌜ readTold r ≡ pick there (accepted byte) (refused 10) ⌝ }
+    ensures { λ r. ⌜ registerTold r ≡ pick there (accepted byte) (refused 10) ⌝ }
 {
     if there {
         ReadAnswer::Byte(byte)
@@ -71,17 +40,17 @@ fn answered(there: bool, byte: u8) -> ReadAnswer
 
 // What the host reads at an address.
 pub fn read(s: State, address: u32) -> ReadAnswer
-    ensures { λ r. ⌜ readTold r ≡ readOf s address ⌝ }
+    ensures { λ r. ⌜ registerTold r ≡ readOf s address ⌝ }
 {
     let there = known(address);
     let held = byte_at(s, address);
-    let byte = state_fields::shown(address, held);
+    let byte = state_fields::shown(s.profile, address, held);
     answered(there, byte)
 }
 
 // A register of a model: 6 before a power-on, then 10. Nothing changes.
 pub fn read_register(m: Model, address: u32) -> ReadAnswer
-    ensures { λ r. ⌜ readTold r ≡ readRegisterOf m address ⌝ }
+    ensures { λ r. ⌜ registerTold r ≡ readRegisterOf m address ⌝ }
 {
     match m {
         Model::Off => ReadAnswer::Refused(Refusal::NotPowered),

@@ -1,6 +1,7 @@
 // The register reset.
 ghost use mathlib.Core.Path.{_≡_};
-ghost use Rattle.state_registers.specs.Resets.{restored, resetOf};
+ghost use Rattle.state_registers.specs.Resets.{resetRegisters, resetOf};
+use state_fields::digits;
 use state_parts::profile::Profile;
 use state_parts::registers::Registers;
 use state_parts::state::State;
@@ -9,14 +10,14 @@ use state_start::start_registers;
 use state_start::start_settings;
 use state_start::start_watchdog;
 
-// The registers after a reset: the cell count and bit 7 of 0x19 stay.
+// The registers after a reset: the cell count and EN_BYPASS_LL_EXIT (0x19 bit 7) stay.
 fn restore(p: Profile, g: Registers) -> Registers
-    ensures { λ r. ⌜ r ≡ restored p g ⌝ }
+    ensures { λ r. ⌜ r ≡ resetRegisters p g ⌝ }
 {
-    let high = g.r19 / 128 * 128;
     let start = start_registers(p);
+    let r19 = digits::keep_bypass(g.r19, start.r19);
     let mut n = start;
-    n.r19 = high + start.r19 % 128;
+    n.r19 = r19;
     n.cells = g.cells;
     n
 }

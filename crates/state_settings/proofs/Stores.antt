@@ -12,6 +12,7 @@ use Rattle.base.specs.Volts.{packOf, millivoltsOf}
 use Rattle.base.specs.declared.units.PackMv.{PackMv}
 use Rattle.base.proofs.Span.{span}
 use Rattle.base.proofs.Tests.{and-iff}
+use Rattle.state_parts.specs.declared.profile.Profile.{Profile}
 use Rattle.state_parts.specs.declared.settings.Settings.{Settings}
 use Rattle.state_settings.specs.Kept.{holdsTo, settingsOk}
 use Rattle.state_settings.specs.Numbered.{settingNumbers, heldOf, storeOf}
@@ -22,7 +23,8 @@ volts-held : (t : Bool) (v : ℕ) (p : PackMv) → millivoltsOf (pick t (packOf 
 volts-held true v p = refl
 volts-held false v p = refl
 
-bit-held : (v : ℕ) → v ≤ 1 → bitOf (eqb v 1) ≡ v
+-- a number that is 0 or 1 is its own test
+pub bit-held : (v : ℕ) → v ≤ 1 → bitOf (eqb v 1) ≡ v
 bit-held zero h = refl
 bit-held (suc zero) h = refl
 bit-held (suc (suc v)) h = absurd (omega arith)
@@ -31,15 +33,15 @@ flag-held : (t : Bool) (v : ℕ) (b : Bool) → (t ≡ true → v ≤ 1) → bit
 flag-held true v b h = bit-held v (h refl)
 flag-held false v b h = refl
 
-module _ (s : Settings) (n v : ℕ) (e : mayHold n v ≡ true) where
+module _ (p : Profile) (s : Settings) (n v : ℕ) (e : mayHold p n v ≡ true) where
   -- five rows are of tests
   flag : (k : ℕ) (b : Bool) → 9 ≤ k → k ≤ 13 → bitOf (pick (eqb n k) (eqb v 1) b) ≡ pick (eqb n k) v (bitOf b)
   unfolding rangeOf ranges
   flag k b h l =
       flag-held (eqb n k) v b
       (λ same.
-      let most = at-most k v (subst (λ (m : ℕ). mayHold m v ≡ true) (eqb-true n k same) e) in
-      span (λ (m : ℕ). v ≤ rangeOf m .high → v ≤ 1) 9 5 k (λ q. q, (λ q. q, (λ q. q, (λ q. q, (λ q. q, tt))))) h (omega arith) most)
+      let most = at-most p k v (subst (λ (m : ℕ). mayHold p m v ≡ true) (eqb-true n k same) e) in
+      span (λ (m : ℕ). v ≤ rangeOf p m .high → v ≤ 1) 9 5 k (λ q. q, (λ q. q, (λ q. q, (λ q. q, (λ q. q, tt))))) h (omega arith) most)
 
   -- what each setting holds after a store
   pub held-after : (m : ℕ) → 1 ≤ m → m ≤ 14 → heldOf (storeOf s n v) m ≡ pick (eqb n m) v (heldOf s m)
@@ -49,27 +51,27 @@ module _ (s : Settings) (n v : ℕ) (e : mayHold n v ≡ true) where
       (volts-held (eqb n 1) v (s .vreg), (refl, (refl, (refl, (refl, (volts-held (eqb n 6) v (s .vsysmin), (refl, (refl, (flag 9 (s .enchg) (omega arith) (omega arith), (flag 10 (s .enterm) (omega arith) (omega arith), (flag 11 (s .enhiz) (omega arith) (omega arith), (flag 12 (s .enextilim) (omega arith) (omega arith), (flag 13 (s .disstat) (omega arith) (omega arith), (refl, tt))))))))))))))
       h (omega arith)
 
-  passes : (m : ℕ) (t : Bool) → eqb n m ≡ t → mayHold m (heldOf s m) ≡ true → mayHold m (pick t v (heldOf s m)) ≡ true
-  passes m true same h = subst (λ (k : ℕ). mayHold k v ≡ true) (eqb-true n m same) e
+  passes : (m : ℕ) (t : Bool) → eqb n m ≡ t → mayHold p m (heldOf s m) ≡ true → mayHold p m (pick t v (heldOf s m)) ≡ true
+  passes m true same h = subst (λ (k : ℕ). mayHold p k v ≡ true) (eqb-true n m same) e
   passes m false other h = h
 
-  up-to : (m : ℕ) → m ≤ 14 → holdsTo s m ≡ true → holdsTo (storeOf s n v) m ≡ true
+  up-to : (m : ℕ) → m ≤ 14 → holdsTo p s m ≡ true → holdsTo p (storeOf s n v) m ≡ true
   up-to zero l h = refl
   up-to (suc m) l h =
-      let both = and-iff (holdsTo s m) (mayHold (suc m) (heldOf s (suc m))) .0 h in
-      and-iff (holdsTo (storeOf s n v) m) (mayHold (suc m) (heldOf (storeOf s n v) (suc m))) .1 (
+      let both = and-iff (holdsTo p s m) (mayHold p (suc m) (heldOf s (suc m))) .0 h in
+      and-iff (holdsTo p (storeOf s n v) m) (mayHold p (suc m) (heldOf (storeOf s n v) (suc m))) .1 (
         up-to m (omega arith) (both .0),
-        ap (mayHold (suc m)) (held-after (suc m) (omega arith) l) ∙ passes (suc m) (eqb n (suc m)) refl (both .1),
+        ap (mayHold p (suc m)) (held-after (suc m) (omega arith) l) ∙ passes (suc m) (eqb n (suc m)) refl (both .1),
       )
 
-  pub store-passes : settingsOk s ≡ true → settingsOk (storeOf s n v) ≡ true
+  pub store-passes : settingsOk p s ≡ true → settingsOk p (storeOf s n v) ≡ true
   unfolding settingsOk
   store-passes h = up-to 14 (omega arith) h
 
 -- each setting of settings that hold what they may
-pub each-may : (s : Settings) (most m : ℕ) → holdsTo s most ≡ true → 1 ≤ m → m ≤ most → mayHold m (heldOf s m) ≡ true
-each-may s zero m h l k = absurd (omega arith)
-each-may s (suc most) m h l k =
-    let both = and-iff (holdsTo s most) (mayHold (suc most) (heldOf s (suc most))) .0 h in
-    ⊎-elim (λ same. subst (λ (n : ℕ). mayHold n (heldOf s n) ≡ true) (sym same) (both .1)) (λ less. each-may s most m (both .0) l (omega arith))
+pub each-may : (p : Profile) (s : Settings) (most m : ℕ) → holdsTo p s most ≡ true → 1 ≤ m → m ≤ most → mayHold p m (heldOf s m) ≡ true
+each-may p s zero m h l k = absurd (omega arith)
+each-may p s (suc most) m h l k =
+    let both = and-iff (holdsTo p s most) (mayHold p (suc most) (heldOf s (suc most))) .0 h in
+    ⊎-elim (λ same. subst (λ (n : ℕ). mayHold p n (heldOf s n) ≡ true) (sym same) (both .1)) (λ less. each-may p s most m (both .0) l (omega arith))
     (eq-or-lt-of-le k)

@@ -4,14 +4,15 @@ use mathlib.Core.Bool.{Bool, _&&_}
 use mathlib.Core.List.{List, [], _∷_}
 use lib.ListN.{getD}
 use lib.Dec.{leb, eqb}
+use Rattle.state_parts.specs.declared.profile.Profile.{Profile}
 use Rattle.state_settings.specs.declared.ranges.Range.{Range}
 
 abbrev pub range : ℕ → ℕ → ℕ → Range
 range low high step = record { low = low; high = high; step = step }
 
 -- "setting number not 1-14" (8)
-abbrev pub knownSetting : ℕ → Bool
-knownSetting number = leb 1 number && leb number 14
+abbrev pub knownSetting : Profile → ℕ → Bool
+knownSetting p number = leb 1 number && leb number 14
 
 -- a row for each setting at its number, low, high and step; nothing is in the range at 0
 unfoldable pub ranges : List Range
@@ -33,11 +34,11 @@ ranges =
     ∷ range 0 4095 1  -- masks
     ∷ []
 
-unfoldable pub rangeOf : ℕ → Range
-rangeOf number = getD ranges (number % 15) (range 0 0 0)
+unfoldable pub rangeOf : Profile → ℕ → Range
+rangeOf p number = getD ranges (number % 15) (range 0 0 0)
 
-abbrev pub within : Range → ℕ → Bool
-within r value = leb (r .low) value && leb value (r .high) && eqb (value % r .step) 0
+abbrev pub inRange : Range → ℕ → Bool
+inRange r value = leb (r .low) value && leb value (r .high) && eqb (value % r .step) 0
 
-unfoldable pub mayHold : ℕ → ℕ → Bool
-mayHold number value = knownSetting number && within (rangeOf number) value
+unfoldable pub mayHold : Profile → ℕ → ℕ → Bool
+mayHold p number value = knownSetting p number && inRange (rangeOf p number) value

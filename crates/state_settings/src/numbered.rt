@@ -5,7 +5,7 @@ use base::choice;
 use base::volts;
 use state_parts::settings::Settings;
 
-// The number that a setting holds; 0 where there is no such setting.
+// The number that a setting holds; 0 if there is no such setting.
 pub fn held(s: Settings, number: u32) -> u32
     ensures { λ r. ⌜ r ≡ heldOf s number ⌝ }
 {

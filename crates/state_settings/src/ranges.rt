@@ -1,7 +1,8 @@
 // The fourteen settings' ranges, by one table.
 ghost use mathlib.Core.Path.{_≡_};
 ghost use Prim.Native.Nat.{_<_};
-ghost use Rattle.state_settings.specs.Ranges.{knownSetting, within, rangeOf, mayHold};
+ghost use Rattle.state_settings.specs.Ranges.{knownSetting, inRange, rangeOf, mayHold};
+use state_parts::profile::Profile;
 
 // The least and the greatest value, and the step of those between.
 pub struct Range {
@@ -11,7 +12,7 @@ pub struct Range {
 }
 
 // Settings 1 to 14 at their numbers; nothing is in the range at 0.
-pub(crate) const RANGES: [Range; 15] = [
+const RANGES: [Range; 15] = [
     Range {
         low: 1,
         high: 0,
@@ -90,34 +91,34 @@ pub(crate) const RANGES: [Range; 15] = [
 ];
 
 // There is a setting of this number.
-pub fn known(number: u32) -> bool
-    ensures { λ r. ⌜ r ≡ knownSetting number ⌝ }
+pub fn known(p: Profile, number: u32) -> bool
+    ensures { λ r. ⌜ r ≡ knownSetting p number ⌝ }
 {
     (1 <= number) & (number <= 14)
 }
 
 // The table's row of a number.
-fn range_of(number: u32) -> Range
-    ensures { λ r. ⌜ r ≡ rangeOf number ⌝ }
+fn range_of(p: Profile, number: u32) -> Range
+    ensures { λ r. ⌜ r ≡ rangeOf p number ⌝ }
 {
     let i = (number % 15) as usize;
     RANGES[i]
 }
 
 // A value of a range that lies on its step.
-pub(crate) fn in_range(range: Range, value: u32) -> bool
+fn in_range(range: Range, value: u32) -> bool
     requires { ⌜ 0 < range .step ⌝ }
-    ensures { λ r. ⌜ r ≡ within range value ⌝ }
+    ensures { λ r. ⌜ r ≡ inRange range value ⌝ }
 {
     (range.low <= value) & (value <= range.high) & (value % range.step == 0)
 }
 
 // A setting of this number may hold this value.
-pub fn may_hold(number: u32, value: u32) -> bool
-    ensures { λ r. ⌜ r ≡ mayHold number value ⌝ }
+pub fn may_hold(p: Profile, number: u32, value: u32) -> bool
+    ensures { λ r. ⌜ r ≡ mayHold p number value ⌝ }
 {
-    let there = known(number);
-    let range = range_of(number);
+    let there = known(p, number);
+    let range = range_of(p, number);
     let fits = in_range(range, value);
     there & fits
 }

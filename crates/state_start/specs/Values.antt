@@ -29,8 +29,8 @@ unfoldable pub startIchg : Profile → ℕ
 startIchg p = pick (eqb (p .ichg) 0) 40 (ichgOf p)
 
 -- "6 VSYSMIN .. starts 3,100 x cells (one cell 3,500; code 0: 3,000)."
-unfoldable pub startVsysmin : ℕ → PackMv
-startVsysmin cells = pick (eqb cells 0) (packOf 3000) (pick (eqb cells 1) (packOf 3500) (inPack (record { 0 = 3100 }) cells))
+unfoldable pub startVsysmin : Profile → ℕ → PackMv
+startVsysmin p cells = pick (eqb cells 0) (packOf 3000) (pick (eqb cells 1) (packOf 3500) (inPack (record { 0 = 3100 }) cells))
 
 -- "3 IPRECHG, 4 ITERM .. start 120, 60. 5 IINDPM .. starts 3,300. .. 7 VBAT_LOWV, 8 VRECHG 0-3, start 3. 9 EN_CHG, 10 EN_TERM, 12 EN_EXTILIM 0-1, start 1. 11 EN_HIZ,
 -- 13 DIS_STAT_PIN 0-1, start 0. 14 masks 0-4,095, starts 0."
@@ -41,7 +41,7 @@ startSettings p cells = record {
   iprechg = 120;
   iterm = 60;
   iindpm = 3300;
-  vsysmin = startVsysmin cells;
+  vsysmin = startVsysmin p cells;
   lowv = 3;
   vrechg = 3;
   enchg = true;
@@ -83,8 +83,8 @@ abbrev pub startLatches : Latches
 startLatches = record { inputok = false; inputover = false; short = true; low = true; packover = false }
 
 -- what a power-on begins with, before it settles
-unfoldable pub startOf : Profile → State
-startOf p = record {
+unfoldable pub startState : Profile → State
+startState p = record {
   profile = p;
   settings = startSettings p (p .cell);
   registers = startRegisters p;

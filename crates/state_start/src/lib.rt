@@ -1,7 +1,7 @@
 // What a power-on begins with, and a register reset returns to.
 ghost use mathlib.Core.Path.{_≡_};
 ghost use Rattle.state_start.specs.Values.{startVreg, startIchg, startVsysmin, startSettings, startRegisters};
-ghost use Rattle.state_start.specs.Values.{startSample, startCycle, startWatchdog, startLatches, startOf};
+ghost use Rattle.state_start.specs.Values.{startSample, startCycle, startWatchdog, startLatches, startState};
 use base::choice;
 use base::units::CellMv;
 use base::units::PackMv;
@@ -42,8 +42,8 @@ pub fn start_ichg(p: Profile) -> u32
 }
 
 // VSYSMIN's start value at a cell count.
-pub fn start_vsysmin(cells: u32) -> PackMv
-    ensures { λ r. ⌜ r ≡ startVsysmin cells ⌝ }
+pub fn start_vsysmin(p: Profile, cells: u32) -> PackMv
+    ensures { λ r. ⌜ r ≡ startVsysmin p cells ⌝ }
 {
     let least = pack(3000);
     let single = pack(3500);
@@ -58,7 +58,7 @@ pub fn start_settings(p: Profile, cells: u32) -> Settings
 {
     let vreg = start_vreg(p, cells);
     let ichg = start_ichg(p);
-    let vsysmin = start_vsysmin(cells);
+    let vsysmin = start_vsysmin(p, cells);
     Settings {
         vreg: vreg,
         ichg: ichg,
@@ -143,7 +143,7 @@ pub fn start_latches() -> Latches
 
 // What a power-on begins with, before it settles.
 pub fn start(p: Profile) -> State
-    ensures { λ r. ⌜ r ≡ startOf p ⌝ }
+    ensures { λ r. ⌜ r ≡ startState p ⌝ }
 {
     let settings = start_settings(p, p.cell);
     let registers = start_registers(p);

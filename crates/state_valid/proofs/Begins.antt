@@ -7,7 +7,9 @@ use borrow.Author.Tests.{le-leb, lt-ltb, ne-eqb}
 use Rattle.base.specs.Units.{inPack}
 use Rattle.base.proofs.Span.{tested, allOf}
 use Rattle.state_fields.specs.Rows.{fields, fieldsAt, shownOf, resetByte}
-use Rattle.state_start.specs.Values.{startVreg, startIchg, startVsysmin, startSettings, startRegisters, startSample, startCycle, startWatchdog, startOf}
+use Rattle.state_start.proofs.Anchors.{coded}
+use Rattle.state_start.specs.Values.{startVreg, startIchg, startVsysmin, startSettings, startRegisters, startSample, startCycle, startWatchdog, startState}
+use Rattle.state_parts.specs.Stages.{limitUnits}
 use Rattle.state_parts.specs.declared.phase.Phase.{Phase}
 use Rattle.state_parts.specs.declared.phase.Phase.the-variants.{Idle}
 use Rattle.state_parts.specs.declared.profile.Profile.{Profile}
@@ -18,54 +20,39 @@ use Rattle.state_settings.specs.Ranges.{ranges, rangeOf, mayHold}
 use Rattle.state_valid.proofs.Bounds.{profile-bounds}
 use Rattle.state_valid.proofs.Wholes.{whole}
 
--- a profile of these pin codes
-abbrev coded : ℕ → ℕ → Profile
-coded vchg ichg = record {
-  cell = 0;
-  vchg = vchg;
-  ichg = ichg;
-  ohms = 0;
-  stamp = 0;
-  ceiling = 0;
-  trickle = 0;
-  precharge = 0;
-  fast = 0;
-  watchdog = 0;
-}
-
 -- the settings that start at the same value whatever the pins say
-others-may : (a b d : Bool) → a ≡ true → b ≡ true → d ≡ true
-    → (a && b && mayHold 3 120 && mayHold 4 60 && mayHold 5 3300 && d && mayHold 7 3 && mayHold 8 3 && mayHold 9 1 && mayHold 10 1 && mayHold 11 0 && mayHold 12 1 && mayHold 13 0 && mayHold 14 0) ≡ true
+others-may : (p : Profile) (a b d : Bool) → a ≡ true → b ≡ true → d ≡ true
+    → (a && b && mayHold p 3 120 && mayHold p 4 60 && mayHold p 5 3300 && d && mayHold p 7 3 && mayHold p 8 3 && mayHold p 9 1 && mayHold p 10 1 && mayHold p 11 0 && mayHold p 12 1 && mayHold p 13 0 && mayHold p 14 0) ≡ true
 unfolding mayHold rangeOf ranges
-others-may a b d ea eb ed = simp (ea, eb, ed)
+others-may p a b d ea eb ed = simp (ea, eb, ed)
 
 module _ (p : Profile) (cells : ℕ) (v : p .vchg ≤ 7) (i : p .ichg ≤ 7) (c : cells ≤ 7) where
-  pub vreg-may : mayHold 1 (startVreg p cells .0) ≡ true
+  pub vreg-may : mayHold p 1 (startVreg p cells .0) ≡ true
   unfolding startVreg inPack mayHold rangeOf ranges
   vreg-may =
-      let test : ℕ → ℕ → Bool = λ code count. mayHold 1 (startVreg (coded code 0) count .0) in
+      let test : ℕ → ℕ → Bool = λ code count. mayHold p 1 (startVreg (coded 0 code 0) count .0) in
       tested (test (p .vchg)) 0 8 cells
       (tested (λ (code : ℕ). allOf (test code) 0 8) 0 8 (p .vchg) refl (omega arith) (omega arith)) (omega arith) (omega arith)
 
-  ichg-may : mayHold 2 (startIchg p) ≡ true
+  ichg-may : mayHold p 2 (startIchg p) ≡ true
   unfolding startIchg mayHold rangeOf ranges
-  ichg-may = tested (λ (code : ℕ). mayHold 2 (startIchg (coded 0 code))) 0 8 (p .ichg) refl (omega arith) (omega arith)
+  ichg-may = tested (λ (code : ℕ). mayHold p 2 (startIchg (coded 0 0 code))) 0 8 (p .ichg) refl (omega arith) (omega arith)
 
-  pub vsysmin-may : mayHold 6 (startVsysmin cells .0) ≡ true
+  pub vsysmin-may : mayHold p 6 (startVsysmin p cells .0) ≡ true
   unfolding startVsysmin inPack mayHold rangeOf ranges
-  vsysmin-may = tested (λ (count : ℕ). mayHold 6 (startVsysmin count .0)) 0 8 cells refl (omega arith) (omega arith)
+  vsysmin-may = tested (λ (count : ℕ). mayHold p 6 (startVsysmin p count .0)) 0 8 cells refl (omega arith) (omega arith)
 
-  pub start-settings-pass : settingsOk (startSettings p cells) ≡ true
+  pub start-settings-pass : settingsOk p (startSettings p cells) ≡ true
   unfolding settingsOk startSettings heldOf settingNumbers
-  start-settings-pass = others-may _ _ _ vreg-may ichg-may vsysmin-may
+  start-settings-pass = others-may p _ _ _ vreg-may ichg-may vsysmin-may
 
 -- the registers start with the sheet's resets, field by field
-pub start-resets : (p : Profile) → (startRegisters p .r15 ≡ resetByte 0x15) × (startRegisters p .r16 ≡ resetByte 0x16) × (startRegisters p .r17 ≡ resetByte 0x17)
-    × (startRegisters p .r18 ≡ resetByte 0x18) × (startRegisters p .r19 ≡ resetByte 0x19) × (startRegisters p .r1a ≡ resetByte 0x1A)
+pub start-resets : (p : Profile) → (startRegisters p .r15 ≡ resetByte p 0x15) × (startRegisters p .r16 ≡ resetByte p 0x16) × (startRegisters p .r17 ≡ resetByte p 0x17)
+    × (startRegisters p .r18 ≡ resetByte p 0x18) × (startRegisters p .r19 ≡ resetByte p 0x19) × (startRegisters p .r1a ≡ resetByte p 0x1A)
 unfolding resetByte fieldsAt fields
 start-resets p = (refl, refl, refl, refl, refl, refl)
 
-pub start-registers-pass : (p : Profile) → p .cell ≤ 7 → registersOk (startRegisters p) ≡ true
+pub start-registers-pass : (p : Profile) → p .cell ≤ 7 → registersOk p (startRegisters p) ≡ true
 unfolding registersOk shownOf fieldsAt fields
 start-registers-pass p c = le-leb (p .cell) 7 c
 
@@ -73,9 +60,9 @@ start-registers-pass p c = le-leb (p .cell) 7 c
 nothing-used : (limit : ℕ) (stage : Bool) → stageOk limit stage 0 ≡ true
 nothing-used zero stage = refl
 nothing-used (suc limit) true =
-    simp (ne-eqb (suc limit) 0 (λ e. omega arith), le-leb 1 (suc limit) (omega arith), lt-ltb 0 (suc limit * 2000 + 7200000) (omega arith), lt-ltb 0 (suc limit * 2000) (omega arith))
+    simp (ne-eqb (suc limit) 0 (λ e. omega arith), le-leb 1 (suc limit) (omega arith), lt-ltb 0 (limitUnits (suc limit) + 7200000) (omega arith), lt-ltb 0 (limitUnits (suc limit)) (omega arith))
 nothing-used (suc limit) false =
-    simp (ne-eqb (suc limit) 0 (λ e. omega arith), le-leb 1 (suc limit) (omega arith), lt-ltb 0 (suc limit * 2000 + 7200000) (omega arith))
+    simp (ne-eqb (suc limit) 0 (λ e. omega arith), le-leb 1 (suc limit) (omega arith), lt-ltb 0 (limitUnits (suc limit) + 7200000) (omega arith))
 
 pub start-cycle-pass : (p : Profile) (phase : Phase) → cycleOk startCycle p phase ≡ true
 unfolding cycleOk
@@ -90,11 +77,11 @@ unfolding sampleOk
 start-sample-pass p = refl
 
 -- a power-on in its ranges begins with a state that holds what it may
-pub start-passes : (p : Profile) → profileOk p ≡ true → stateOk (startOf p) ≡ true
-unfolding startOf
+pub start-passes : (p : Profile) → profileOk p ≡ true → stateOk (startState p) ≡ true
+unfolding startState
 start-passes p e =
     let b = profile-bounds p e in
-    whole (startOf p) (record {
+    whole (startState p) (record {
       profile = e;
       settings = start-settings-pass p (p .cell) (b .vchg) (b .ichg) (b .cell);
       registers = start-registers-pass p (b .cell);

@@ -6,7 +6,7 @@ use mathlib.Core.Logic.{_⊎_, inl, inr, ⊎-elim}
 use lib.Dec.{leb, ltb, eqb}
 use native.Mathlib.Omega.{arith}
 use Rattle.base.proofs.Tests.{and-iff, leb-iff, eqb-iff}
-use Rattle.state_parts.specs.Numbers.{phaseNumber}
+use Rattle.state_parts.specs.Stages.{inTrickle, inPrecharge, inFast, limitUnits}
 use Rattle.state_parts.specs.declared.cycle.Cycle.{Cycle}
 use Rattle.state_parts.specs.declared.phase.Phase.{Phase}
 use Rattle.state_parts.specs.declared.profile.Profile.{Profile}
@@ -60,9 +60,9 @@ sample-bounds x e =
     let k = simp (and-iff, leb-iff) at e in
     record { input = omega arith; pack = omega arith; ts = omega arith; bits = omega arith }
 
-pub few-cells : (g : Registers) → registersOk g ≡ true → g .cells ≤ 7
+pub few-cells : (p : Profile) (g : Registers) → registersOk p g ≡ true → g .cells ≤ 7
 unfolding registersOk
-few-cells g e = omega (arith, simp (and-iff, leb-iff) at e)
+few-cells p g e = omega (arith, simp (and-iff, leb-iff) at e)
 
 pub dog-most : (w : Watchdog) (p : Profile) → watchdogOk w p ≡ true → w .count ≤ p .watchdog * 1000
 unfolding watchdogOk
@@ -79,10 +79,10 @@ pub record SettingsBounds (s : Settings) : Type 0 where
   pub vrechg : s .vrechg ≤ 3
   pub masks : s .masks ≤ 4095
 
-pub settings-bounds : (s : Settings) → settingsOk s ≡ true → SettingsBounds s
+pub settings-bounds : (p : Profile) (s : Settings) → settingsOk p s ≡ true → SettingsBounds s
 unfolding settingsOk heldOf settingNumbers rangeOf ranges
-settings-bounds s e =
-    let most : (n : ℕ) → 1 ≤ n → n ≤ 14 → heldOf s n ≤ rangeOf n .high = λ n h k. at-most n (heldOf s n) (each-may s 14 n e h k) in
+settings-bounds p s e =
+    let most : (n : ℕ) → 1 ≤ n → n ≤ 14 → heldOf s n ≤ rangeOf p n .high = λ n h k. at-most p n (heldOf s n) (each-may p s 14 n e h k) in
     record {
       vreg = most 1 (omega arith) (omega arith);
       ichg = most 2 (omega arith) (omega arith);
@@ -99,30 +99,30 @@ either-of : (a b : Bool) → (a || b) ≡ true → (a ≡ true) ⊎ (b ≡ true)
 either-of true b e = inl refl
 either-of false b e = inr e
 
--- a stage's time is 0 where its limit is, and below its limit and one observation's most else
-pub stage-below : (limit : ℕ) (stage : Bool) (time : ℕ) → stageOk limit stage time ≡ true → time < limit * 2000 + 7200000
+-- a stage's time is 0 if its limit is, and else below the limit plus the most that one observation adds
+pub stage-below : (limit : ℕ) (stage : Bool) (time : ℕ) → stageOk limit stage time ≡ true → time < limitUnits limit + 7200000
 stage-below limit stage time e =
     ⊎-elim (λ none. omega (arith, simp (and-iff, eqb-iff) at none)) (λ some. omega (arith, simp (and-iff, leb-iff) at some))
-    (either-of (eqb limit 0 && eqb time 0) (leb 1 limit && ltb time (limit * 2000 + 7200000) && (not stage || ltb time (limit * 2000))) e)
+    (either-of (eqb limit 0 && eqb time 0) (leb 1 limit && ltb time (limitUnits limit + 7200000) && (not stage || ltb time (limitUnits limit))) e)
 
--- where the stage is held its time is below its limit
-pub stage-held : (limit time : ℕ) → 1 ≤ limit → stageOk limit true time ≡ true → time < limit * 2000
+-- if the stage is held, its time is below its limit
+pub stage-held : (limit time : ℕ) → 1 ≤ limit → stageOk limit true time ≡ true → time < limitUnits limit
 stage-held limit time h e =
     ⊎-elim (λ none. absurd (omega (arith, simp (and-iff, eqb-iff) at none))) (λ some. omega (arith, simp (and-iff, leb-iff) at some))
-    (either-of (eqb limit 0 && eqb time 0) (leb 1 limit && ltb time (limit * 2000 + 7200000) && ltb time (limit * 2000)) e)
+    (either-of (eqb limit 0 && eqb time 0) (leb 1 limit && ltb time (limitUnits limit + 7200000) && ltb time (limitUnits limit)) e)
 
--- a cycle holds what it may exactly where each of its stages does
+-- a cycle holds what it may if and only if each of its stages does
 pub record Stages (y : Cycle) (p : Profile) (phase : Phase) : Type 0 where
-  pub trickle : stageOk (p .trickle) (eqb (phaseNumber phase) 1) (y .trickle) ≡ true
-  pub precharge : stageOk (p .precharge) (eqb (phaseNumber phase) 2) (y .precharge) ≡ true
-  pub fast : stageOk (p .fast) (eqb (phaseNumber phase) 3 || eqb (phaseNumber phase) 4) (y .fast) ≡ true
+  pub trickle : stageOk (p .trickle) (inTrickle phase) (y .trickle) ≡ true
+  pub precharge : stageOk (p .precharge) (inPrecharge phase) (y .precharge) ≡ true
+  pub fast : stageOk (p .fast) (inFast phase) (y .fast) ≡ true
 
 pub stages-apart : (y : Cycle) (p : Profile) (phase : Phase) → cycleOk y p phase ≡ true → Stages y p phase
 unfolding cycleOk
 stages-apart y p phase e =
-    let t = stageOk (p .trickle) (eqb (phaseNumber phase) 1) (y .trickle) in
-    let c = stageOk (p .precharge) (eqb (phaseNumber phase) 2) (y .precharge) in
-    let f = stageOk (p .fast) (eqb (phaseNumber phase) 3 || eqb (phaseNumber phase) 4) (y .fast) in
+    let t = stageOk (p .trickle) (inTrickle phase) (y .trickle) in
+    let c = stageOk (p .precharge) (inPrecharge phase) (y .precharge) in
+    let f = stageOk (p .fast) (inFast phase) (y .fast) in
     let k = and-iff (t && c) f .0 e in
     let l = and-iff t c .0 (k .0) in
     record { trickle = l .0; precharge = l .1; fast = k .1 }

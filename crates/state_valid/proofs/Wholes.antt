@@ -1,4 +1,4 @@
--- A state holds what it may exactly where each of its parts does.
+-- A state holds what it may if and only if each of its parts does.
 use mathlib.Core.Path.{_≡_}
 use mathlib.Core.Bool.{true}
 use Rattle.base.proofs.Tests.{and-iff}
@@ -8,8 +8,8 @@ use Rattle.state_valid.specs.Holds.{profileOk, sampleOk, registersOk, cy
 
 pub record Holding (s : State) : Type 0 where
   pub profile : profileOk (s .profile) ≡ true
-  pub settings : settingsOk (s .settings) ≡ true
-  pub registers : registersOk (s .registers) ≡ true
+  pub settings : settingsOk (s .profile) (s .settings) ≡ true
+  pub registers : registersOk (s .profile) (s .registers) ≡ true
   pub cycle : cycleOk (s .cycle) (s .profile) (s .phase) ≡ true
   pub watchdog : watchdogOk (s .watchdog) (s .profile) ≡ true
   pub sample : sampleOk (s .sample) ≡ true

@@ -4,8 +4,9 @@ use mathlib.Core.Bool.{Bool, not, _&&_, _||_}
 use lib.Dec.{leb, ltb, eqb}
 use lib.IntN.{pos, negsuc}
 use lib.Signed.{leZ}
-use Rattle.state_fields.specs.Rows.{shownOf, frequencyOk}
-use Rattle.state_parts.specs.Numbers.{phaseNumber}
+use Rattle.state_fields.specs.Held.{storedAt}
+use Rattle.state_fields.specs.Rows.{fsw, shownOf, frequencyOk}
+use Rattle.state_parts.specs.Stages.{inTrickle, inPrecharge, inFast, limitUnits}
 use Rattle.state_parts.specs.declared.cycle.Cycle.{Cycle}
 use Rattle.state_parts.specs.declared.phase.Phase.{Phase}
 use Rattle.state_parts.specs.declared.profile.Profile.{Profile}
@@ -27,26 +28,26 @@ sampleOk x =
     leb (x .input) 45000 && leb (x .pack) 45000 && leZ (negsuc 9999) (x .ibat) && leZ (x .ibat) (pos 5000) && leb (x .ts) 100000
     && leb (x .bits) 63
 
--- "Reserved .. bits ignore writes; reserved read 0": a byte that is held is what is shown of it
-abbrev pub byteOk : ℕ → ℕ → Bool
-byteOk address byte = eqb (shownOf address byte) byte
+-- "Reserved .. bits ignore writes; reserved read 0": a held byte is the one that is shown
+abbrev pub byteOk : Profile → ℕ → ℕ → Bool
+byteOk p address byte = eqb (shownOf p address byte) byte
 
-unfoldable pub registersOk : Registers → Bool
-registersOk g =
-    byteOk 0x15 (g .r15) && byteOk 0x16 (g .r16) && byteOk 0x17 (g .r17) && byteOk 0x18 (g .r18) && byteOk 0x19 (g .r19)
-    && byteOk 0x1A (g .r1a) && frequencyOk (g .r16) && leb (g .cells) 7
+unfoldable pub registersOk : Profile → Registers → Bool
+registersOk p g =
+    byteOk p 0x15 (storedAt g 0x15) && byteOk p 0x16 (storedAt g 0x16) && byteOk p 0x17 (storedAt g 0x17) && byteOk p 0x18 (storedAt g 0x18)
+    && byteOk p 0x19 (storedAt g 0x19) && byteOk p 0x1A (storedAt g 0x1A) && frequencyOk p (storedAt g (fsw .address)) && leb (g .cells) 7
 
 -- "A limit of s seconds is reached at 2,000s units; a limit 0 counts nothing." An observation is at most 3,600,000 ms ahead, so a stage passes its limit by less than
 -- 7,200,000 units; and then the stage isn't held, since the fault is.
 abbrev pub stageOk : ℕ → Bool → ℕ → Bool
 stageOk limit stage time =
-    (eqb limit 0 && eqb time 0) || (leb 1 limit && ltb time (limit * 2000 + 7200000) && (not stage || ltb time (limit * 2000)))
+    (eqb limit 0 && eqb time 0) || (leb 1 limit && ltb time (limitUnits limit + 7200000) && (not stage || ltb time (limitUnits limit)))
 
 -- "trickle, precharge; fast and taper share one"
 unfoldable pub cycleOk : Cycle → Profile → Phase → Bool
 cycleOk y p phase =
-    stageOk (p .trickle) (eqb (phaseNumber phase) 1) (y .trickle) && stageOk (p .precharge) (eqb (phaseNumber phase) 2) (y .precharge)
-    && stageOk (p .fast) (eqb (phaseNumber phase) 3 || eqb (phaseNumber phase) 4) (y .fast)
+    stageOk (p .trickle) (inTrickle phase) (y .trickle) && stageOk (p .precharge) (inPrecharge phase) (y .precharge)
+    && stageOk (p .fast) (inFast phase) (y .fast)
 
 -- "reaching its period expires it .. and it rests until service or a reset zeroes it": the count stands still at its period
 unfoldable pub watchdogOk : Watchdog → Profile → Bool
@@ -54,5 +55,5 @@ watchdogOk w p = leb (w .count) (p .watchdog * 1000)
 
 unfoldable pub stateOk : State → Bool
 stateOk s =
-    profileOk (s .profile) && settingsOk (s .settings) && registersOk (s .registers) && cycleOk (s .cycle) (s .profile) (s .phase)
+    profileOk (s .profile) && settingsOk (s .profile) (s .settings) && registersOk (s .profile) (s .registers) && cycleOk (s .cycle) (s .profile) (s .phase)
     && watchdogOk (s .watchdog) (s .profile) && sampleOk (s .sample)

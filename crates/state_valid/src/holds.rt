@@ -2,6 +2,9 @@
 ghost use mathlib.Core.Path.{_≡_};
 ghost use Rattle.state_valid.specs.Holds.{profileOk, sampleOk, registersOk, cycleOk, watchdogOk, stateOk};
 ghost use Rattle.state_valid.specs.Holds.{byteOk, stageOk};
+ghost use Rattle.state_fields.specs.Held.{storedAt};
+use state_fields::held;
+use state_parts::cycle;
 use state_parts::cycle::Cycle;
 use state_parts::phase;
 use state_parts::phase::Phase;
@@ -40,25 +43,26 @@ pub fn sample_ok(x: Sample) -> bool
         & (x.bits <= 63)
 }
 
-// A byte without reserved bits.
-fn byte_ok(address: u32, byte: u8) -> bool
-    ensures { λ r. ⌜ r ≡ byteOk address byte ⌝ }
+// The byte at an address has no reserved bits.
+fn byte_ok(p: Profile, g: Registers, address: u32) -> bool
+    ensures { λ r. ⌜ r ≡ byteOk p address (storedAt g address) ⌝ }
 {
-    state_fields::shown(address, byte) == byte
+    let byte = held::stored_at(g, address);
+    state_fields::shown(p, address, byte) == byte
 }
 
 // The registers hold what they may.
-pub fn registers_ok(g: Registers) -> bool
-    ensures { λ r. ⌜ r ≡ registersOk g ⌝ }
+pub fn registers_ok(p: Profile, g: Registers) -> bool
+    ensures { λ r. ⌜ r ≡ registersOk p g ⌝ }
 {
     let count = g.cells <= 7;
-    let b15 = byte_ok(0x15, g.r15);
-    let b16 = byte_ok(0x16, g.r16);
-    let b17 = byte_ok(0x17, g.r17);
-    let b18 = byte_ok(0x18, g.r18);
-    let b19 = byte_ok(0x19, g.r19);
-    let b1a = byte_ok(0x1A, g.r1a);
-    let frequency = state_fields::frequency_ok(g.r16);
+    let b15 = byte_ok(p, g, 0x15);
+    let b16 = byte_ok(p, g, 0x16);
+    let b17 = byte_ok(p, g, 0x17);
+    let b18 = byte_ok(p, g, 0x18);
+    let b19 = byte_ok(p, g, 0x19);
+    let b1a = byte_ok(p, g, 0x1A);
+    let frequency = state_fields::frequency_ok(p, g.r16);
     b15 & b16 & b17 & b18 & b19 & b1a & frequency & count
 }
 
@@ -66,7 +70,7 @@ pub fn registers_ok(g: Registers) -> bool
 fn stage_ok(limit: u32, stage: bool, time: u32) -> bool
     ensures { λ r. ⌜ r ≡ stageOk limit stage time ⌝ }
 {
-    let top = (limit as u64) * 2000;
+    let top = cycle::limit_units(limit);
     let used = time as u64;
     ((limit == 0) & (time == 0)) | ((1 <= limit) & (used < top + 7200000) & (!stage | (used < top)))
 }
@@ -75,10 +79,12 @@ fn stage_ok(limit: u32, stage: bool, time: u32) -> bool
 pub fn cycle_ok(y: Cycle, p: Profile, phase: Phase) -> bool
     ensures { λ r. ⌜ r ≡ cycleOk y p phase ⌝ }
 {
-    let n = phase::number(phase);
-    let trickle = stage_ok(p.trickle, n == 1, y.trickle);
-    let precharge = stage_ok(p.precharge, n == 2, y.precharge);
-    let fast = stage_ok(p.fast, (n == 3) | (n == 4), y.fast);
+    let first = phase::in_trickle(phase);
+    let second = phase::in_precharge(phase);
+    let last = phase::in_fast(phase);
+    let trickle = stage_ok(p.trickle, first, y.trickle);
+    let precharge = stage_ok(p.precharge, second, y.precharge);
+    let fast = stage_ok(p.fast, last, y.fast);
     trickle & precharge & fast
 }
 
@@ -96,8 +102,8 @@ pub fn state_ok(s: State) -> bool
 {
     let phase = s.phase;
     let p = profile_ok(s.profile);
-    let t = settings_ok(s.settings);
-    let g = registers_ok(s.registers);
+    let t = settings_ok(s.profile, s.settings);
+    let g = registers_ok(s.profile, s.registers);
     let y = cycle_ok(s.cycle, s.profile, phase);
     let w = watchdog_ok(s.watchdog, s.profile);
     let x = sample_ok(s.sample);

@@ -22,7 +22,7 @@ use Rattle.state_parts.specs.declared.state.Model.{Model}
 use Rattle.state_parts.specs.declared.state.Model.the-variants.{Off, On}
 use Rattle.log_event.specs.declared.Event.{Event}
 use Rattle.state_fields.specs.Rows.{frequencyOk}
-use Rattle.state_start.specs.Values.{startOf}
+use Rattle.state_start.specs.Values.{startState}
 use Rattle.state_settings.specs.Numbered.{storeOf}
 use Rattle.state_settings.specs.Ranges.{knownSetting, mayHold}
 use Rattle.state_settings.proofs.Stores.{store-passes}
@@ -64,19 +64,19 @@ tests r true c k = refuses r
 tests r false c k = k refl
 
 opens : (p : Profile) → profileOk p ≡ true → Writes (openedAs p)
-opens p ok = changes (startOf p) Powers (ready (startOf p) (start-passes p ok))
+opens p ok = changes (startState p) Powers (ready (startState p) (start-passes p ok))
 
 module _ (s : State) (e : stateOk s ≡ true) where
   sets : (number value : ℕ) → Writes (setOf s number value)
   unfolding setOf
   sets number value =
-      tests UnknownSetting (not (knownSetting number)) _
-      (λ _. tests BadValue (not (mayHold number value)) _
+      tests UnknownSetting (not (knownSetting (s .profile) number)) _
+      (λ _. tests BadValue (not (mayHold (s .profile) number value)) _
       (λ ok.
       let k = ready s e in
       changes (withSettings s (storeOf (s .settings) number value)) Plain (record {
         profile = k .profile;
-        settings = store-passes (s .settings) number value (not-false (mayHold number value) ok) (k .settings);
+        settings = store-passes (s .profile) (s .settings) number value (not-false (mayHold (s .profile) number value) ok) (k .settings);
         registers = k .registers;
         cycle = k .cycle;
         watchdog = k .watchdog;
@@ -84,13 +84,13 @@ module _ (s : State) (e : stateOk s ≡ true) where
       })))
 
   -- FSW is 1 to 6 where the byte is taken
-  legal : (address byte : ℕ) → (eqb address 0x16 && not (frequencyOk byte)) ≡ false → address ≡ 0x16 → frequencyOk byte ≡ true
-  legal address byte t same = not-false (frequencyOk byte) (simp same at t)
+  legal : (address byte : ℕ) → (eqb address 0x16 && not (frequencyOk (s .profile) byte)) ≡ false → address ≡ 0x16 → frequencyOk (s .profile) byte ≡ true
+  legal address byte t same = not-false (frequencyOk (s .profile) byte) (simp same at t)
 
   writes : (address byte : ℕ) → Writes (writtenOf s address byte)
   unfolding writtenOf writeOf
   writes address byte =
-      by (not (knownAddress address)) (not (leb byte 255)) (eqb address 0x16 && not (frequencyOk byte))
+      by (not (knownAddress address)) (not (leb byte 255)) (eqb address 0x16 && not (frequencyOk (s .profile) byte))
       (λ known small good.
       let k = and-iff (leb 0x15 address) (leb address 0x1C) .0 (not-false (knownAddress address) known) in
       let most = leb-true byte 255 (not-false (leb byte 255) small) in

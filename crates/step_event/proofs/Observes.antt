@@ -6,7 +6,7 @@ use native.Mathlib.Omega.{arith}
 use lib.Dec.{eqb}
 use borrow.Author.Tests.{le-leb, ne-eqb}
 use Rattle.base.specs.Stamps.{elapsedOf}
-use Rattle.state_parts.specs.Numbers.{phaseNumber}
+use Rattle.state_parts.specs.Stages.{inTrickle, inPrecharge, inFast}
 use Rattle.state_parts.specs.declared.cycle.Cycle.{Cycle}
 use Rattle.state_parts.specs.declared.phase.Phase.{Phase}
 use Rattle.state_parts.specs.declared.phase.Phase.the-variants.{Idle}
@@ -36,9 +36,9 @@ unfolding timesOf
 timed p held units y e h =
     let k = stages-apart y p held e in
     stages-whole (timesOf p held units y) p Idle (record {
-      trickle = added-stage (eqb (phaseNumber held) 1) (p .trickle) (y .trickle) units (k .trickle) h;
-      precharge = added-stage (eqb (phaseNumber held) 2) (p .precharge) (y .precharge) units (k .precharge) h;
-      fast = added-stage (eqb (phaseNumber held) 3 || eqb (phaseNumber held) 4) (p .fast) (y .fast) units (k .fast) h;
+      trickle = added-stage (inTrickle held) (p .trickle) (y .trickle) units (k .trickle) h;
+      precharge = added-stage (inPrecharge held) (p .precharge) (y .precharge) units (k .precharge) h;
+      fast = added-stage (inFast held) (p .fast) (y .fast) units (k .fast) h;
     })
 
 -- the count stands still at its period
@@ -47,9 +47,9 @@ unfolding watchdogOk countedOf
 counted-passes p w ms = le-leb (min (w .count + ms) (p .watchdog * 1000)) (p .watchdog * 1000) (omega arith)
 
 -- any override may stand, or none
-cleared-passes : (expires : Bool) (g : Registers) → registersOk g ≡ true → registersOk (clearedIf expires g) ≡ true
+cleared-passes : (p : Profile) (expires : Bool) (g : Registers) → registersOk p g ≡ true → registersOk p (clearedIf expires g) ≡ true
 unfolding registersOk clearedIf
-cleared-passes expires g e = e
+cleared-passes p expires g e = e
 
 pub observed-ready : (s : State) (x : Sample) → stateOk s ≡ true → sampleOk x ≡ true → elapsedOf (s .sample .stamp) (x .stamp) ≤ 3600000 → Ready (observedOf s x)
 unfolding observedOf
@@ -60,7 +60,7 @@ observed-ready s x e ok h =
     record {
       profile = k .profile;
       settings = k .settings;
-      registers = cleared-passes _ (s .registers) (k .registers);
+      registers = cleared-passes (s .profile) _ (s .registers) (k .registers);
       cycle = timed (s .profile) (s .phase) (unitsOf (s .sample) ms) (s .cycle) (k .cycle) most;
       watchdog = counted-passes (s .profile) (s .watchdog) ms;
       sample = ok;

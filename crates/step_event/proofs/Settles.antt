@@ -6,7 +6,6 @@ use native.Mathlib.Omega.{arith}
 use lib.Dec.{eqb}
 use borrow.Author.Tests.{lt-ltb, le-leb, leb-false, ne-eqb}
 use Rattle.base.specs.Pick.{pick}
-use Rattle.state_parts.specs.Numbers.{phaseNumber}
 use Rattle.state_parts.specs.declared.cycle.Cycle.{Cycle}
 use Rattle.state_parts.specs.declared.phase.Phase.{Phase}
 use Rattle.state_parts.specs.declared.phase.Phase.the-variants.{Idle, Trickle, Precharge, Fast, Taper, Done, Suspended, Fault}
@@ -14,7 +13,8 @@ use Rattle.state_parts.specs.declared.profile.Profile.{Profile}
 use Rattle.state_parts.specs.declared.settings.Settings.{Settings}
 use Rattle.state_parts.specs.declared.state.State.{State}
 use Rattle.settle_phases.specs.Cycles.{cycleOf}
-use Rattle.settle_phases.specs.Order.{charging, clearsOf}
+use Rattle.state_parts.specs.Stages.{inTrickle, inPrecharge, inFast, charging}
+use Rattle.settle_phases.specs.Order.{clearsOf}
 use Rattle.settle_phases.specs.declared.tests.Tests.{Tests}
 use Rattle.settle_permission.specs.Limits.{limitReached, reachedOf}
 use Rattle.state_settings.specs.Kept.{settingsOk}
@@ -33,8 +33,8 @@ use Rattle.settle_all.proofs.Below.{below-limits}
 -- a state before it settles: as one that holds what it may, but a stage may have passed its limit, as in idle
 pub record Ready (s : State) : Type 0 where
   pub profile : profileOk (s .profile) ≡ true
-  pub settings : settingsOk (s .settings) ≡ true
-  pub registers : registersOk (s .registers) ≡ true
+  pub settings : settingsOk (s .profile) (s .settings) ≡ true
+  pub registers : registersOk (s .profile) (s .registers) ≡ true
   pub cycle : cycleOk (s .cycle) (s .profile) Idle ≡ true
   pub watchdog : watchdogOk (s .watchdog) (s .profile) ≡ true
   pub sample : sampleOk (s .sample) ≡ true
@@ -53,9 +53,9 @@ pub loose : (y : Cycle) (p : Profile) (phase : Phase) → cycleOk y p phase ≡ 
 loose y p phase e =
     let k = stages-apart y p phase e in
     stages-whole y p Idle (record {
-      trickle = loose-stage (p .trickle) (y .trickle) (eqb (phaseNumber phase) 1) (k .trickle);
-      precharge = loose-stage (p .precharge) (y .precharge) (eqb (phaseNumber phase) 2) (k .precharge);
-      fast = loose-stage (p .fast) (y .fast) (eqb (phaseNumber phase) 3 || eqb (phaseNumber phase) 4) (k .fast);
+      trickle = loose-stage (p .trickle) (y .trickle) (inTrickle phase) (k .trickle);
+      precharge = loose-stage (p .precharge) (y .precharge) (inPrecharge phase) (k .precharge);
+      fast = loose-stage (p .fast) (y .fast) (inFast phase) (k .fast);
     })
 
 pub ready : (s : State) → stateOk s ≡ true → Ready s
@@ -71,17 +71,17 @@ ready s e =
     }
 
 -- EN_CHG forced to 0 is a setting that a set may give
-off-may : mayHold 9 0 ≡ true
+off-may : (p : Profile) → mayHold p 9 0 ≡ true
 unfolding mayHold rangeOf ranges
-off-may = refl
+off-may p = refl
 
 forced : (t : Settings) → storedOf true t ≡ storeOf t 9 0
 unfolding storeOf
 forced t = simp (and-false (t .enchg))
 
-stored-passes : (fault : Bool) (t : Settings) → settingsOk t ≡ true → settingsOk (storedOf fault t) ≡ true
-stored-passes true t e = ap settingsOk (forced t) ∙ store-passes t 9 0 off-may e
-stored-passes false t e = simp (and-true (t .enchg)) e
+stored-passes : (p : Profile) (fault : Bool) (t : Settings) → settingsOk p t ≡ true → settingsOk p (storedOf fault t) ≡ true
+stored-passes p true t e = ap (settingsOk p) (forced t) ∙ store-passes p t 9 0 (off-may p) e
+stored-passes p false t e = simp (and-true (t .enchg)) e
 
 -- times that are kept or cleared
 kept-stage : (limit time : ℕ) (clears : Bool) → stageOk limit false time ≡ true → stageOk limit false (pick clears 0 time) ≡ true
@@ -121,9 +121,9 @@ module _ (y : Cycle) (p : Profile) (loosely : cycleOk y p Idle ≡ true) where
       let two = neither (limitReached (p .trickle) (y .trickle) || limitReached (p .precharge) (y .precharge)) (limitReached (p .fast) (y .fast)) e in
       let one = neither (limitReached (p .trickle) (y .trickle)) (limitReached (p .precharge) (y .precharge)) (two .0) in
       stages-whole y p phase (record {
-        trickle = held-stage (p .trickle) (y .trickle) (eqb (phaseNumber phase) 1) (k .trickle) (one .0);
-        precharge = held-stage (p .precharge) (y .precharge) (eqb (phaseNumber phase) 2) (k .precharge) (one .1);
-        fast = held-stage (p .fast) (y .fast) (eqb (phaseNumber phase) 3 || eqb (phaseNumber phase) 4) (k .fast) (two .1);
+        trickle = held-stage (p .trickle) (y .trickle) (inTrickle phase) (k .trickle) (one .0);
+        precharge = held-stage (p .precharge) (y .precharge) (inPrecharge phase) (k .precharge) (one .1);
+        fast = held-stage (p .fast) (y .fast) (inFast phase) (k .fast) (two .1);
       })
 
   -- and else no stage is held
@@ -146,8 +146,8 @@ settled-passes s observed k =
     ap (λ (y : Cycle). cycleOk y (s .profile) Idle) (settles-to s observed .cycle) ∙ kept (testedOf s observed) (s .cycle) (s .profile) (k .cycle) in
     whole after (record {
       profile = ap profileOk (u .profile) ∙ k .profile;
-      settings = ap settingsOk (u .settings) ∙ stored-passes (faultOf (s .profile) (s .registers)) (s .settings) (k .settings);
-      registers = ap registersOk (u .registers) ∙ k .registers;
+      settings = (λ i. settingsOk (u .profile i) (u .settings i)) ∙ stored-passes (s .profile) (faultOf (s .profile) (s .registers)) (s .settings) (k .settings);
+      registers = (λ i. registersOk (u .profile i) (u .registers i)) ∙ k .registers;
       cycle = ap (λ (p : Profile). cycleOk (after .cycle) p (after .phase)) (u .profile) ∙ tight (after .cycle) (s .profile) cycled (after .phase) (below-limits s observed);
       watchdog = simp (u .watchdog, u .profile) (k .watchdog);
       sample = ap sampleOk (u .sample) ∙ k .sample;

@@ -1,11 +1,11 @@
 -- 01, "One observation, in order".
 use Prim.Native.Nat.{ℕ, _+_, _*_, min}
-use mathlib.Core.Bool.{Bool, not, _&&_, _||_}
+use mathlib.Core.Bool.{Bool, not, _&&_}
 use lib.Dec.{eqb}
 use Rattle.base.specs.Pick.{pick}
 use Rattle.base.specs.Stamps.{elapsedOf}
-use Rattle.state_parts.specs.Numbers.{phaseNumber}
-use Rattle.state_parts.specs.With.{withCycle, withRegisters, withWatchdog, withSample}
+use Rattle.state_parts.specs.Stages.{inTrickle, inPrecharge, inFast}
+use Rattle.state_parts.specs.With.{withCycle, withRegisters, withWatchdog, withSample, withOverrides}
 use Rattle.state_parts.specs.declared.cycle.Cycle.{Cycle}
 use Rattle.state_parts.specs.declared.phase.Phase.{Phase}
 use Rattle.state_parts.specs.declared.profile.Profile.{Profile}
@@ -14,7 +14,7 @@ use Rattle.state_parts.specs.declared.sample.Sample.{Sample}
 use Rattle.state_parts.specs.declared.state.State.{State}
 use Rattle.state_parts.specs.declared.watchdog.Watchdog.{Watchdog}
 use Rattle.settle_permission.specs.Bits.{regulatedOf}
-use Rattle.step_flags.specs.Expiry.{expiredOf}
+use Rattle.step_flags.specs.Expiry.{expiresOf}
 
 -- "two units per ms, one while the old sample shows any regulation"
 unfoldable pub unitsOf : Sample → ℕ → ℕ
@@ -27,9 +27,9 @@ addedOf held limit time units = pick (held && not (eqb limit 0)) (time + units) 
 -- "1. Time since the last stamp goes to the stage held before it (trickle, precharge; fast and taper share one)"
 unfoldable pub timesOf : Profile → Phase → ℕ → Cycle → Cycle
 timesOf p held units c = record {
-  trickle = addedOf (eqb (phaseNumber held) 1) (p .trickle) (c .trickle) units;
-  precharge = addedOf (eqb (phaseNumber held) 2) (p .precharge) (c .precharge) units;
-  fast = addedOf (eqb (phaseNumber held) 3 || eqb (phaseNumber held) 4) (p .fast) (c .fast) units;
+  trickle = addedOf (inTrickle held) (p .trickle) (c .trickle) units;
+  precharge = addedOf (inPrecharge held) (p .precharge) (c .precharge) units;
+  fast = addedOf (inFast held) (p .fast) (c .fast) units;
   done = c .done;
 }
 
@@ -39,29 +39,17 @@ countedOf p w ms = record { count = min (w .count + ms) (p .watchdog * 1000) }
 
 -- "all three overrides clear"
 unfoldable pub clearedIf : Bool → Registers → Registers
-clearedIf expires g = record {
-  r15 = g .r15;
-  r16 = g .r16;
-  r17 = g .r17;
-  r18 = g .r18;
-  r19 = g .r19;
-  r1a = g .r1a;
-  cells = g .cells;
-  vchgoverride = g .vchgoverride && not expires;
-  celloverride = g .celloverride && not expires;
-  ichgoverride = g .ichgoverride && not expires;
-}
+clearedIf expires g = withOverrides g (g .vchgoverride && not expires) (g .celloverride && not expires) (g .ichgoverride && not expires)
 
 -- "3. The new sample stands."
 unfoldable pub observedOf : State → Sample → State
 observedOf s x =
     let ms = elapsedOf (s .sample .stamp) (x .stamp) in
     let dog = countedOf (s .profile) (s .watchdog) ms in
-    let expires = not (expiredOf (s .profile) (s .watchdog)) && expiredOf (s .profile) dog in
     withSample
     (withWatchdog
     (withRegisters
     (withCycle s (timesOf (s .profile) (s .phase) (unitsOf (s .sample) ms) (s .cycle)))
-    (clearedIf expires (s .registers)))
+    (clearedIf (expiresOf (s .profile) (s .watchdog) dog) (s .registers)))
     dog)
     x

@@ -42,10 +42,9 @@ fn times(p: Profile, held: Phase, units: u32, c: Cycle) -> Cycle
     ensures { λ r. ⌜ r ≡ timesOf p held units c ⌝ }
 {
     let done = c.done;
-    let n = phase::number(held);
-    let trickle = added(n == 1, p.trickle, c.trickle, units);
-    let precharge = added(n == 2, p.precharge, c.precharge, units);
-    let fast = added((n == 3) | (n == 4), p.fast, c.fast, units);
+    let trickle = added(phase::in_trickle(held), p.trickle, c.trickle, units);
+    let precharge = added(phase::in_precharge(held), p.precharge, c.precharge, units);
+    let fast = added(phase::in_fast(held), p.fast, c.fast, units);
     Cycle {
         trickle,
         precharge,
@@ -96,9 +95,8 @@ pub(crate) fn observed(s: State, x: Sample) -> State
     let n = units(old, ms);
     let after = times(p, held, n, c);
     let dog = counted(p, w, ms);
-    let was = expiry::expired(p, w);
-    let is = expiry::expired(p, dog);
-    let registers = cleared(!was & is, g);
+    let expires = expiry::expires(p, w, dog);
+    let registers = cleared(expires, g);
     let mut r = s;
     r.cycle = after;
     r.registers = registers;

@@ -1,5 +1,5 @@
 -- 01: "Flags, on an edge between the state before the event and the state after settling, masked or not".
-use mathlib.Core.Bool.{Bool, not, _&&_}
+use mathlib.Core.Bool.{not}
 use lib.Dec.{eqb}
 use Rattle.state_parts.specs.Numbers.{phaseNumber, bandNumber}
 use Rattle.state_parts.specs.declared.flags.Flags.{Flags}
@@ -7,7 +7,7 @@ use Rattle.state_parts.specs.declared.state.State.{State}
 use Rattle.settle_levels.specs.Comparators.{goodOf}
 use Rattle.settle_permission.specs.Bits.{iindpmOf, vindpmOf, thermalOf, shutdownOf}
 use Rattle.settle_permission.specs.Limits.{reachedOf}
-use Rattle.step_flags.specs.Expiry.{expiredOf}
+use Rattle.step_flags.specs.Expiry.{expiredOf, begins}
 use Rattle.step_flags.specs.declared.between.Seen.{Seen}
 
 -- what the flags are edges of, as it stands in a state
@@ -25,9 +25,6 @@ seenOf s = record {
   packover = s .latches .packover;
   limit = reachedOf (s .profile) (s .cycle);
 }
-
-abbrev pub begins : Bool → Bool → Bool
-begins was is = not was && is
 
 -- "bit 0 input good, 1 input lost, 2-4 IINDPM, VINDPM, thermal regulation begin, 5 watchdog expired, 6 phase changed, 7 band changed, 8 VIN over, 9 thermal shutdown,
 -- 10 battery over, 11 a first limit reached."

@@ -6,7 +6,7 @@ use Rattle.base.specs.Told.{Told, accepted, refused}
 use Rattle.state_parts.specs.With.{withSettings, withWatchdog}
 use Rattle.state_parts.specs.declared.profile.Profile.{Profile}
 use Rattle.state_parts.specs.declared.state.State.{State}
-use Rattle.state_start.specs.Values.{startOf, startWatchdog}
+use Rattle.state_start.specs.Values.{startState, startWatchdog}
 use Rattle.state_settings.specs.Ranges.{knownSetting, mayHold}
 use Rattle.state_settings.specs.Numbered.{storeOf}
 use Rattle.state_registers.specs.Writes.{writeOf}
@@ -16,13 +16,13 @@ use Rattle.step_kinds.specs.declared.change.Way.the-variants.{Plain, Pow
 
 -- "1 power-on": all that is held begins anew
 abbrev pub openedAs : Profile → Told Changed
-openedAs p = changed (startOf p) Powers
+openedAs p = changed (startState p) Powers
 
 -- "6, 8, 9 for sets"
 unfoldable pub setOf : State → ℕ → ℕ → Told Changed
 setOf s number value =
-    pick (not (knownSetting number)) (refused 8)
-    (pick (not (mayHold number value)) (refused 9)
+    pick (not (knownSetting (s .profile) number)) (refused 8)
+    (pick (not (mayHold (s .profile) number value)) (refused 9)
     (changed (withSettings s (storeOf (s .settings) number value)) Plain))
 
 -- "6, 10, 5, 11 for writes": the last three are the registers' answer

@@ -33,10 +33,11 @@ fn with_settings(s: State, t: Settings) -> State
 pub fn set(s: State, number: u32, value: u32) -> Change
     ensures { λ r. ⌜ changeTold r ≡ setOf s number value ⌝ }
 {
-    if !ranges::known(number) {
+    let profile = s.profile;
+    if !ranges::known(profile, number) {
         return Change::Refused(Refusal::UnknownSetting);
     }
-    if !ranges::may_hold(number, value) {
+    if !ranges::may_hold(profile, number, value) {
         return Change::Refused(Refusal::BadValue);
     }
     let held = s.settings;

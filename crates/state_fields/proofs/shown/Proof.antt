@@ -5,7 +5,7 @@ use Rattle.state_fields.proofs.shown.Statement.{statement}
 use Rattle.state_fields.proofs.shown.Tie as tie
 
 returns : tie.Need-returns
-returns c = c .taken .ensures ∙ shown-taken _ _
+returns c = c .taken .ensures ∙ shown-taken _ _ _
 
 pub shown-spec : {M : Type 1} → statement M
 shown-spec = tie.close (tie.spec (λ c κs. tt) returns)

@@ -13,23 +13,23 @@ unfolding takenOf fieldsAt fields
 returns c = simp (c .match .keys1) (omega arith)
 
 returns-2 : tie.Need-returns-2
-returns-2 c = sym (all-written _ _ _ _ (omega (arith, c .match .keys2)) (omega (arith, c .match .keys2)) (search needs))
+returns-2 c = sym (all-written _ _ _ _ _ (omega (arith, c .match .keys2)) (omega (arith, c .match .keys2)) (search needs))
 
 returns-3 : tie.Need-returns-3
-returns-3 c = sym (all-written _ _ _ _ (omega (arith, c .match .keys3)) (omega (arith, c .match .keys3)) (search needs))
+returns-3 c = sym (all-written _ _ _ _ _ (omega (arith, c .match .keys3)) (omega (arith, c .match .keys3)) (search needs))
 
 returns-4 : tie.Need-returns-4
-returns-4 c = sym (all-written _ _ _ _ (omega (arith, c .match .keys4)) (omega (arith, c .match .keys4)) (search needs))
+returns-4 c = sym (all-written _ _ _ _ _ (omega (arith, c .match .keys4)) (omega (arith, c .match .keys4)) (search needs))
 
 returns-5 : tie.Need-returns-5
-returns-5 c = sym (all-written _ _ _ _ (omega (arith, c .match .keys5)) (omega (arith, c .match .keys5)) (search needs))
+returns-5 c = sym (all-written _ _ _ _ _ (omega (arith, c .match .keys5)) (omega (arith, c .match .keys5)) (search needs))
 
 returns-6 : tie.Need-returns-6
 unfolding takenOf fieldsAt fields
 returns-6 c = simp (c .match .keys6) (omega arith)
 
 returns-7 : tie.Need-returns-7
-returns-7 c = simp (c .match .keys7, c .before .byte .ensures) (sym (pinned _ _ _))
+returns-7 c = simp (c .match .keys7, c .before .byte .ensures) (sym (pinned _ _ _ _))
 
 returns-8 : tie.Need-returns-8
 unfolding takenOf fieldsAt fields

@@ -1,10 +1,10 @@
 -- `start`: its calls' results in place.
-use Rattle.state_start.specs.Values.{startOf}
+use Rattle.state_start.specs.Values.{startState}
 use Rattle.state_start.proofs.start.Statement.{statement}
 use Rattle.state_start.proofs.start.Tie as tie
 
 returns : tie.Need-returns
-unfolding startOf
+unfolding startState
 returns c = simp (c .none .ensures, c .before .start-sample .ensures, c .before .before .start-watchdog .ensures, c .before .before .before .start-cycle .ensures, c .before .before .before .before .start-latches .ensures, c .before .before .before .before .before .start-registers .ensures, c .before .before .before .before .before .before .start-settings .ensures)
 
 pub start-spec : {M : Type 1} → statement M

@@ -1,4 +1,4 @@
--- `fast_current`: a share of at most 100 percent fits where the whole does.
+-- `fast_current`: a share of at most 100 percent fits if the whole does.
 use Prim.Native.Nat.{_≤_}
 use native.Mathlib.Nat.{mul-le-mul}
 use native.Mathlib.Omega.{arith}
@@ -16,7 +16,7 @@ mul-result c = times-fits w64 4294967295 4294967295 (search needs) (search needs
 cast-result-3 : tie.Need-cast-result-3
 cast-result-3 c =
     let a = c .before .before .before .args in
-    let most : c .before .share .result ≤ 100 = rw (c .before .share .ensures) (share-most (a .registers) (a .band)) in
+    let most : c .before .share .result ≤ 100 = rw (c .before .share .ensures) (share-most (a .profile) (a .registers) (a .band)) in
     let all : c .lower .result ≤ 4294967295 = search needs in
     let m = mul-le-mul all most in
     record { fits = omega arith }

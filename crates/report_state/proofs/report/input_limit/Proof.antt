@@ -1,4 +1,4 @@
--- `input_limit`: by the pin where it counts and has a resistor.
+-- `input_limit`: by the pin if it counts and has a resistor.
 use mathlib.Core.Path.{_∙_}
 use borrow.Author.Tests.{lt-ltb, le-ltb}
 use Rattle.report_state.specs.Report.{inputLimitOf}

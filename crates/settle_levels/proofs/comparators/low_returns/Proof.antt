@@ -4,16 +4,17 @@ use mathlib.Core.List.{[], _∷_}
 use native.Mathlib.Omega.{arith}
 use lib.Dec.{leb, leb→le}
 use Rattle.base.proofs.Table.{at}
+use Rattle.state_parts.specs.declared.profile.Profile.{Profile}
 use Rattle.state_parts.specs.declared.settings.Settings.{Settings}
 use Rattle.settle_levels.specs.Comparators.{lowEnds}
 use Rattle.settle_levels.proofs.comparators.low_returns.Statement.{statement}
 use Rattle.settle_levels.proofs.comparators.low_returns.Tie as tie
 
-low-least : (s : Settings) → 50 ≤ lowEnds s
-low-least s = leb→le 50 _ (at (λ (k x : ℕ). leb 50 x) (300 ∷ 550 ∷ 667 ∷ 714 ∷ []) tt (s .lowv % 4) (omega arith))
+low-least : (p : Profile) (s : Settings) → 50 ≤ lowEnds p s
+low-least p s = leb→le 50 _ (at (λ (k x : ℕ). leb 50 x) (300 ∷ 550 ∷ 667 ∷ 714 ∷ []) tt (s .lowv % 4) (omega arith))
 
 sub-result : tie.Need-sub-result
-sub-result c = rw (c .low-ends .ensures) (low-least (c .before .args .settings))
+sub-result c = rw (c .low-ends .ensures) (low-least (c .before .args .profile) (c .before .args .settings))
 
 returns : tie.Need-returns
 returns c = simp (c .low-ends .ensures)

@@ -1,4 +1,4 @@
--- `high_impedance`: the setting, or the pin where it counts.
+-- `high_impedance`: the setting, or the pin if it counts.
 use Rattle.settle_permission.proofs.permission.high_impedance.Statement.{statement}
 use Rattle.settle_permission.proofs.permission.high_impedance.Tie as tie
 

@@ -1,4 +1,4 @@
--- `judged`: the order, with done where VBAT is not below the recharge point.
+-- `judged`: the order, with done if VBAT is not below the recharge point.
 use Rattle.settle_phases.specs.Order.{judgedOf}
 use Rattle.settle_phases.proofs.order.judged.Statement.{statement}
 use Rattle.settle_phases.proofs.order.judged.Tie as tie

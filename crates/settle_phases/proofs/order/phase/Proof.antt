@@ -1,4 +1,4 @@
--- `phase`: done where the charge ends, else as judged.
+-- `phase`: done if the charge ends, else as judged.
 use Rattle.settle_phases.specs.Order.{phaseOf}
 use Rattle.settle_phases.proofs.order.phase.Statement.{statement}
 use Rattle.settle_phases.proofs.order.phase.Tie as tie

@@ -1,13 +1,11 @@
--- `byte_at`: the choices of its calls, one in the other.
+-- `byte_at`: the byte that stands there.
 use Rattle.state_registers.specs.Reads.{byteAt}
 use Rattle.state_registers.proofs.reading.byte_at.Statement.{statement}
 use Rattle.state_registers.proofs.reading.byte_at.Tie as tie
 
 returns : tie.Need-returns
 unfolding byteAt
-returns c = simp (c .byte7 .ensures, c .before .byte6 .ensures, c .before .before .byte5 .ensures, c .before .before .before .byte4 .ensures, c .before .before .before .before .byte3 .ensures, c .before .before .before .before .before .byte2 .ensures, c .before .before .before .before .before .before .byte .ensures, c .before .before .before .before .before .before .before .byte-1c .ensures, c .before .before .before .before .before .before .before .before .byte-1b .ensures)
+returns c = simp (c .stands-at .ensures)
 
 pub byte-at-spec : {M : Type 1} → statement M
-byte-at-spec =
-    tie.close
-    (tie.spec (λ c κs. tt) (λ c κs. tt) (λ c κs. tt) (λ c κs. tt) (λ c κs. tt) (λ c κs. tt) (λ c κs. tt) (λ c κs. tt) (λ c κs. tt) returns)
+byte-at-spec = tie.close (tie.spec (λ c κs. tt) returns)

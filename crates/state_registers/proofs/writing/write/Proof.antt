@@ -1,4 +1,4 @@
--- `write`: its calls' results; the byte is narrowed only where it fits.
+-- `write`: its calls' results; a byte above 255 is refused, so that it is narrowed changes nothing.
 use Rattle.state_registers.proofs.Small.{write-law}
 use borrow.Author.Needs.{needs}
 use Rattle.state_registers.proofs.writing.write.Statement.{statement}

@@ -1,13 +1,10 @@
--- `settings_ok` meets its contract, test by test.
-use borrow.Author.Needs.{needs}
-use Rattle.state_settings.proofs.Kepts.{kept-by}
+-- `settings_ok`: its calls' results, test by test.
+use Rattle.state_settings.proofs.Kepts.{kept-is}
 use Rattle.state_settings.proofs.kept.settings_ok.Statement.{statement}
 use Rattle.state_settings.proofs.kept.settings_ok.Tie as tie
 
 returns : tie.Need-returns
-returns c = kept-by (c .before .before .before .before .before .before .before .before .before .before .before .before .before .before .before .before .before .before .before .before .args .s) _ _ _ _ _ _ _ _ _ _ _ (c .before .before .before .before .before .before .before .before .before .before .before .before .before .before .before .before .before .before .before .millivolts .ensures) (c .before .before .before .before .before .before .before .before .before .before .before .before .before .before .before .before .before .before .millivolts2 .ensures) (c .before .before .before .before .before .before .before .before .before .before .before .before .before .before .before .before .in-range .ensures) (c .before .before .before .before .before .before .before .before .before .before .before .before .before .before .in-range2 .ensures) (c .before .before .before .before .before .before .before .before .before .before .before .before .in-range3 .ensures) (c .before .before .before .before .before .before .before .before .before .before .in-range4 .ensures) (c .before .before .before .before .before .before .before .before .in-range5 .ensures) (c .before .before .before .before .before .before .in-range6 .ensures) (c .before .before .before .before .in-range7 .ensures) (c .before .before .in-range8 .ensures) (c .in-range9 .ensures)
+returns c = simp (c .may-hold9 .ensures, c .before .may-hold8 .ensures, c .before .before .may-hold7 .ensures, c .before .before .before .may-hold6 .ensures, c .before .before .before .before .may-hold5 .ensures, c .before .before .before .before .before .may-hold4 .ensures, c .before .before .before .before .before .before .may-hold3 .ensures, c .before .before .before .before .before .before .before .may-hold2 .ensures, c .before .before .before .before .before .before .before .before .may-hold .ensures, c .before .before .before .before .before .before .before .before .before .millivolts2 .ensures, c .before .before .before .before .before .before .before .before .before .before .millivolts .ensures) (kept-is (c .before .before .before .before .before .before .before .before .before .before .before .args .p) (c .before .before .before .before .before .before .before .before .before .before .before .args .s))
 
 pub settings-ok-spec : {M : Type 1} → statement M
-settings-ok-spec =
-    tie.close
-    (tie.spec (λ c κs. tt) (λ c κs. tt) (λ c. search needs) (λ c κs. search needs) (λ c. search needs) (λ c κs. search needs) (λ c. search needs) (λ c κs. search needs) (λ c. search needs) (λ c κs. search needs) (λ c. search needs) (λ c κs. search needs) (λ c. search needs) (λ c κs. search needs) (λ c. search needs) (λ c κs. search needs) (λ c. search needs) (λ c κs. search needs) (λ c. search needs) (λ c κs. search needs) returns)
+settings-ok-spec = tie.close (tie.spec (λ c κs. tt) (λ c κs. tt) (λ c κs. tt) (λ c κs. tt) (λ c κs. tt) (λ c κs. tt) (λ c κs. tt) (λ c κs. tt) (λ c κs. tt) (λ c κs. tt) (λ c κs. tt) returns)

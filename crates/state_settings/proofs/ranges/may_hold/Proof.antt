@@ -5,7 +5,7 @@ use Rattle.state_settings.proofs.ranges.may_hold.Statement.{statement}
 use Rattle.state_settings.proofs.ranges.may_hold.Tie as tie
 
 in-range-requires : tie.Need-in-range-requires
-in-range-requires c κs = rw (c .range-of .ensures) (some-step _)
+in-range-requires c κs = rw (c .range-of .ensures) (some-step _ _)
 
 returns : tie.Need-returns
 unfolding mayHold

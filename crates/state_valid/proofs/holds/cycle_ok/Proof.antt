@@ -5,9 +5,7 @@ use Rattle.state_valid.proofs.holds.cycle_ok.Tie as tie
 
 returns : tie.Need-returns
 unfolding cycleOk
-returns c = simp (c .stage-ok3 .ensures, c .before .stage-ok2 .ensures, c .before .before .stage-ok .ensures, c .before .before .before .number .ensures)
+returns c = simp (c .stage-ok3 .ensures, c .before .stage-ok2 .ensures, c .before .before .stage-ok .ensures, c .before .before .before .in-fast .ensures, c .before .before .before .before .in-precharge .ensures, c .before .before .before .before .before .in-trickle .ensures)
 
 pub cycle-ok-spec : {M : Type 1} → statement M
-cycle-ok-spec =
-    tie.close
-    (tie.spec (λ c κs. tt) (λ c κs. tt) (λ c κs. tt) (λ c κs. tt) returns)
+cycle-ok-spec = tie.close (tie.spec (λ c κs. tt) (λ c κs. tt) (λ c κs. tt) (λ c κs. tt) (λ c κs. tt) (λ c κs. tt) returns)

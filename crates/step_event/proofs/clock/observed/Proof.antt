@@ -14,9 +14,9 @@ counted-requires c κs = let b = c .before .before .before .before .before .befo
 
 returns : tie.Need-returns
 unfolding observedOf
-returns c = simp (c .cleared .ensures, c .before .expired2 .ensures, c .before .before .expired .ensures, c .before .before .before .counted .ensures, c .before .before .before .before .times .ensures, c .before .before .before .before .before .units .ensures, c .before .before .before .before .before .before .elapsed .ensures)
+returns c = simp (c .cleared .ensures, c .before .expires .ensures, c .before .before .counted .ensures, c .before .before .before .times .ensures, c .before .before .before .before .units .ensures, c .before .before .before .before .before .elapsed .ensures)
 
 pub observed-spec : {M : Type 1} → statement M
 observed-spec =
     tie.close
-    (tie.spec (λ c κs. search needs) (λ c κs. search needs) times-requires counted-requires (λ c κs. search needs) (λ c κs. search needs) (λ c κs. search needs) returns)
+    (tie.spec (λ c κs. search needs) (λ c κs. search needs) times-requires counted-requires (λ c κs. search needs) (λ c κs. search needs) returns)
