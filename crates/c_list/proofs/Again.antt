@@ -7,7 +7,7 @@ use Rattle.state_parts.specs.declared.band.Band.{Band}
 use Rattle.state_parts.specs.declared.band.Band.the-variants.{Normal, Cold, Hot, Cool, Warm}
 use Rattle.state_parts.specs.declared.phase.Phase.{Phase}
 use Rattle.state_parts.specs.declared.phase.Phase.the-variants.{Idle, Trickle, Precharge, Fast, Taper, Done, Suspended, Fault}
-use Rattle.log_event.proofs.Remaking.{signs}
+use Rattle.log_number.proofs.SignLaws.{signs}
 use Rattle.c_list.specs.Numbers.{stateNumbers}
 use Rattle.c_list.specs.Back.{phaseFrom, bandFrom, stateFrom}
 use Rattle.c_list.specs.Promises.{MadeAgain}

@@ -20,7 +20,7 @@ use Rattle.state_parts.specs.declared.cycle.Cycle.{Cycle}
 use Rattle.state_parts.specs.declared.watchdog.Watchdog.{Watchdog}
 use Rattle.state_parts.specs.declared.sample.Sample.{Sample}
 use Rattle.state_parts.specs.declared.state.State.{State}
-use Rattle.log_event.specs.Ibat.{signedOf}
+use Rattle.log_number.specs.Ibat.{signedOf}
 
 -- the i-th number of a part that starts at a place of the list
 abbrev number : List ℕ → ℕ → ℕ → ℕ

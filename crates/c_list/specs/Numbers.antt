@@ -15,7 +15,7 @@ use Rattle.state_parts.specs.declared.cycle.Cycle.{Cycle}
 use Rattle.state_parts.specs.declared.watchdog.Watchdog.{Watchdog}
 use Rattle.state_parts.specs.declared.sample.Sample.{Sample}
 use Rattle.state_parts.specs.declared.state.State.{State}
-use Rattle.log_event.specs.Ibat.{loggedOf}
+use Rattle.log_number.specs.Ibat.{loggedOf}
 
 -- "a power-on's ten numbers, in the log's order"
 abbrev pub profileNumbers : Profile → List ℕ

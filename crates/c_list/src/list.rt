@@ -1,7 +1,7 @@
 // A state's numbers, one list: each part stores its own.
 use base::choice::bit;
 use base::volts;
-use log_event::ibat;
+use log_number::ibat;
 use state_parts::band;
 use state_parts::cycle::Cycle;
 use state_parts::flags;

@@ -1,7 +1,7 @@
 // A state out of a list of numbers: every list makes one.
 use crate::list::Numbers;
 use base::volts;
-use log_event::ibat;
+use log_number::ibat;
 use state_parts::band::Band;
 use state_parts::cycle::Cycle;
 use state_parts::flags::Flags;
