@@ -21,6 +21,7 @@ use Rattle.state_parts.specs.declared.watchdog.Watchdog.{Watchdog}
 use Rattle.state_parts.specs.declared.sample.Sample.{Sample}
 use Rattle.state_parts.specs.declared.state.State.{State}
 use Rattle.log_number.specs.Ibat.{signedOf}
+use Rattle.c_list.specs.Places.{profileAt, settingsAt, registersAt, latchesAt, cycleAt, watchdogAt, sampleAt, phaseAt, bandAt, flagsAt}
 
 -- the i-th number of a part that starts at a place of the list
 abbrev number : List ℕ → ℕ → ℕ → ℕ
@@ -116,14 +117,14 @@ flagsFrom n = record {
 
 unfoldable pub stateFrom : List ℕ → State
 stateFrom all = record {
-  profile = profileFrom all 0;
-  settings = settingsFrom all 10;
-  registers = registersFrom all 24;
-  latches = latchesFrom all 34;
-  cycle = cycleFrom all 39;
-  watchdog = watchdogFrom all 43;
-  sample = sampleFrom all 44;
-  phase = phaseFrom (number all 50 0);
-  band = bandFrom (number all 51 0);
-  flags = flagsFrom (number all 52 0);
+  profile = profileFrom all profileAt;
+  settings = settingsFrom all settingsAt;
+  registers = registersFrom all registersAt;
+  latches = latchesFrom all latchesAt;
+  cycle = cycleFrom all cycleAt;
+  watchdog = watchdogFrom all watchdogAt;
+  sample = sampleFrom all sampleAt;
+  phase = phaseFrom (number all phaseAt 0);
+  band = bandFrom (number all bandAt 0);
+  flags = flagsFrom (number all flagsAt 0);
 }
