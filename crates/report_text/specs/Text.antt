@@ -1,7 +1,7 @@
 -- 01, "Two logs, one program, one host": the lines that runlog prints.
-use Prim.Native.Nat.{ℕ}
+use Prim.Native.Nat.{ℕ, _+_, _*_}
 use mathlib.Core.List.{List, [], _∷_, _++_}
-use Rattle.report_text.specs.Decimal.{decimal}
+use Rattle.report_text.specs.Decimal.{decimal, mostDigits}
 
 -- The byte after a number: 32, a space, where more numbers follow; 10, a newline, after the last.
 abbrev pub after : List ℕ → ℕ
@@ -12,6 +12,14 @@ after (n ∷ more) = 32
 unfoldable pub lineText : List ℕ → List ℕ
 lineText [] = []
 lineText (n ∷ more) = decimal n ++ (after more ∷ lineText more)
+
+-- a record's line has so many numbers, and no line that is written has more
+abbrev pub lineCount : ℕ
+lineCount = 9
+
+-- the most bytes of such a line: each number's digits and the byte after them
+abbrev pub mostLine : ℕ
+mostLine = lineCount * (mostDigits + 1)
 
 -- a line that a word begins
 unfoldable pub headedText : List ℕ → List ℕ → List ℕ
