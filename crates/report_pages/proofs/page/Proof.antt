@@ -1,6 +1,6 @@
 -- `page` meets its contract: the lines as pieces, one after the other.
 use Prim.Native.Nat.{ℕ, _-_, _+_, _^_, _≤_, _<_}
-use mathlib.Core.Path.{_≡_, sym, ap, _∙_}
+use mathlib.Core.Path.{_≡_, ap, _∙_}
 use mathlib.Core.List.{List}
 use native.Mathlib.Omega.{arith}
 use borrow.Author.Needs.{needs}
@@ -8,7 +8,7 @@ use lib.ListN.{length, getD}
 use lib.Seq.{sets}
 use Rattle.base.specs.Writing.{wrote, writtenTold}
 use Rattle.base.proofs.Puts.{put-fits, put-short, written-fits, written-short}
-use Rattle.base.proofs.Pieces.{joined, Turn, first-turn, fits, fit, next-turn, all-written, all-long, count-long, count-at, pieceAt}
+use Rattle.base.proofs.Pieces.{joined, Turn, first-turn, More, one-more, all-done}
 use Rattle.report_state.specs.declared.line.Line.{Line}
 use Rattle.report_pages.specs.Text.{pageCount, pageText}
 use Rattle.report_pages.proofs.Writing.{lineOf, pieces, lines-joined, page-joined, none}
@@ -35,49 +35,30 @@ lines c = c .before .before .before .before .before .args .t2
 abbrev count : tie.At-loop Inv-loop μ-loop → ℕ
 count c = c .before .before .before .lesser .result
 
-abbrev first : tie.At-loop Inv-loop μ-loop → List ℕ
-first c = c .before .before .before .before .before .args .out .now
-
 -- the next line
 abbrev next : tie.At-loop Inv-loop μ-loop → List ℕ
 next c = lineOf (getD (lines c) (c .loop .i) none)
 
--- the page has room, and its pieces are its lines
-record Head (c : tie.At-loop Inv-loop μ-loop) : Type 0 where
-  room : 0 + length (joined (pieces (lines c) (count c))) ≤ length (first c)
-  large : length (c .loop .out) < 2 ^ 64
-  many : length (pieces (lines c) (count c)) ≡ count c
-  next-is : c .loop .i < count c → pieceAt (pieces (lines c) (count c)) (c .loop .i) ≡ next c
-
-head : (c : tie.At-loop Inv-loop μ-loop) → Head c
-head c =
-    let b = c .before .before .before .before .before in
+within : (c : tie.At-loop Inv-loop μ-loop) → count c ≤ length (lines c)
+within c =
     let l : length (lines c) ≡ pageCount = search needs in
-    let within : count c ≤ length (lines c) = omega (arith, c .before .before .before .lesser .ensures) in
-    record {
-      room = omega (arith, ap length (lines-joined (lines c) (count c)));
-      large = omega (arith, c .loop .inv .long, b .good .0 .0);
-      many = count-long lineOf (lines c) (count c) within;
-      next-is = λ h. count-at lineOf (lines c) (count c) none (c .loop .i) within h;
-    }
+    omega (arith, c .before .before .before .lesser .ensures)
+
+large : (c : tie.At-loop Inv-loop μ-loop) → length (c .loop .out) < 2 ^ 64
+large c = omega (arith, c .loop .inv .long, c .before .before .before .before .before .good .0 .0)
+
+loop-holds : tie.Need-loop-holds Inv-loop μ-loop
+loop-holds c = first-turn _ _ 0 (omega (arith, ap length (lines-joined (c .before .before .before .before .args .t2) (c .before .before .lesser .result))))
 
 -- ---- in a turn
-inside : (c : tie.In-loop Inv-loop μ-loop) → c .before .loop .i < length (pieces (lines (c .before)) (count (c .before)))
-inside c = rw (head (c .before) .many) (c .loop-test .taken)
-
-has-room : (c : tie.In-loop Inv-loop μ-loop) → c .before .loop .at + length (next (c .before)) ≤ length (c .before .loop .out)
-has-room c =
+one : (c : tie.In-loop Inv-loop μ-loop) → More (c .before .loop .inv) (next (c .before))
+one c =
     let l = c .before in
-    let h = head l in
-    fits (pieces (lines l) (count l)) (first l) 0 (l .loop .out) (l .loop .at) (l .loop .i) (h .room) (l .loop .inv) (inside c) (next l) (h .next-is (c .loop-test .taken))
+    one-more lineOf (lines l) (count l) (within l) (l .loop .inv) none (c .loop-test .taken)
 
 -- what the call of `text::line` did
 put-whole : (c : tie.After-line2 Inv-loop μ-loop) → writtenTold (c .line2 .result) ≡ wrote (length (next (c .before .before .before .before .before)))
-put-whole c =
-    let t = c .before .before .before .before in
-    let l = t .before in
-    let h = head l in
-    fit (pieces (lines l) (count l)) (first l) 0 (l .loop .out) (l .loop .at) (l .loop .i) (h .room) (l .loop .inv) (inside t) (next l) (h .next-is (t .loop-test .taken)) (writtenTold (c .line2 .result)) (rw (c .before .numbers-of .ensures) at (c .line2 .ensures .0))
+put-whole c = one (c .before .before .before .before) .whole (writtenTold (c .line2 .result)) (rw (c .before .numbers-of .ensures) at (c .line2 .ensures .0))
 
 -- no line is refused: its room was counted before
 never : (c : tie.After-enum-told Inv-loop μ-loop) → ⊥
@@ -97,15 +78,12 @@ took c =
 add-at : tie.Need-add-at Inv-loop μ-loop
 add-at c =
     let t = c .before .before .before .before .before .before .before .before .before in
-    omega (arith, took c, has-room t, head (t .before) .large)
+    omega (arith, took c, one t .fits, large (t .before))
 
 loop-again : tie.Need-loop-again Inv-loop μ-loop
 loop-again c =
     let u = c .before .before .before .before .before in
-    let t = u .before .before .before .before in
-    let l = t .before in
-    let h = head l in
-    next-turn (pieces (lines l) (count l)) (first l) 0 (l .loop .out) (l .loop .at) (l .loop .i) (h .room) (l .loop .inv) (inside t) (next l) (h .next-is (t .loop-test .taken)) (u .line2 .last .0) _ (rw (u .before .numbers-of .ensures) at (u .line2 .ensures .1)) (took c)
+    one (u .before .before .before .before) .next (u .line2 .last .0) _ (rw (u .before .numbers-of .ensures) at (u .line2 .ensures .1)) (took c)
 
 -- ---- the ends
 returns : tie.Need-returns Inv-loop μ-loop
@@ -119,16 +97,13 @@ returns-3 : tie.Need-returns-3 Inv-loop μ-loop
 returns-3 c =
     let l = c .before in
     let a = l .before .before .before .before .before .args in
-    let h = head l in
     let text = whole (l .before .before .before) in
     let s = ap length text in
-    let done : length (pieces (lines l) (count l)) ≤ l .loop .i = rw (h .many) (c .loop-test .left) in
-    let same = all-written (pieces (lines l) (count l)) (first l) 0 (l .loop .out) (l .loop .at) (l .loop .i) (h .room) (l .loop .inv) done in
-    let long = all-long (pieces (lines l) (count l)) (first l) 0 (l .loop .out) (l .loop .at) (l .loop .i) (h .room) (l .loop .inv) done in
-    let enough : length (pageText (a .most) (a .t2)) ≤ length (a .out .now) = omega (arith, s, h .room) in
-    let bytes : l .loop .at ≡ length (pageText (a .most) (a .t2)) = omega (arith, long, s) in (
+    let d = all-done lineOf (lines l) (count l) (within l) (l .loop .inv) (c .loop-test .left) in
+    let enough : length (pageText (a .most) (a .t2)) ≤ length (a .out .now) = omega (arith, s, l .loop .inv .room) in
+    let bytes : l .loop .at ≡ length (pageText (a .most) (a .t2)) = omega (arith, d .place, s) in (
       ap wrote bytes ∙ written-fits (pageText (a .most) (a .t2)) (a .out .now) enough,
-      same ∙ ap (λ t. sets (a .out .now) 0 t) text ∙ put-fits (pageText (a .most) (a .t2)) (a .out .now) enough,
+      d .same ∙ ap (λ t. sets (a .out .now) 0 t) text ∙ put-fits (pageText (a .most) (a .t2)) (a .out .now) enough,
     )
 
 pub page-spec : {M : Type 1} → statement M
@@ -140,12 +115,12 @@ page-spec =
     (λ c κs. tt)
     (λ c κs. omega (arith, c .lesser .ensures))
     returns
-    (λ c. first-turn _ _ 0)
+    loop-holds
     (λ c. omega (arith, c .before .before .before .before .lesser .ensures))
     (λ c. search needs)
-    (λ c. omega (arith, has-room (c .before)))
-    (λ c. omega (arith, has-room (c .before)))
-    (λ c. omega (arith, has-room (c .before)))
+    (λ c. omega (arith, one (c .before) .fits))
+    (λ c. omega (arith, one (c .before) .fits))
+    (λ c. omega (arith, one (c .before) .fits))
     (λ c κs. tt)
     (λ c κs. tt)
     (λ c. search needs)

@@ -5,9 +5,9 @@ use mathlib.Core.List.{List, [], _∷_, _++_}
 use native.Mathlib.Omega.{arith}
 use borrow.Author.Needs.{needs}
 use lib.ListN.{length, take, drop, getD, length-append, length-take, length-drop}
-use Rattle.base.proofs.Pieces.{joined, Turn, first-turn, fits, next-turn, all-written}
+use Rattle.base.proofs.Pieces.{joined, Turn, first-turn, More, more, done}
 use Rattle.report_text.specs.Decimal.{decimal}
-use Rattle.report_text.specs.Text.{after, lineText}
+use Rattle.report_text.specs.Text.{after}
 use Rattle.report_text.specs.Writing.{over}
 use Rattle.report_text.proofs.Parts.{stores}
 use Rattle.report_text.proofs.Outcomes.{with-room}
@@ -27,12 +27,19 @@ numbers c = c .before .before .before .args .numbers .now
 abbrev first : tie.At-loop Inv-loop μ-loop → List ℕ
 first c = c .before .before .before .args .out .now
 
--- the line has room
-enough : (c : tie.At-loop Inv-loop μ-loop) → 0 + length (joined (words (numbers c))) ≤ length (first c)
-enough c = omega (arith, c .before .before .before .pre, ap length (line-joined (numbers c)))
+loop-holds : tie.Need-loop-holds Inv-loop μ-loop
+loop-holds c =
+    let b = c .before .before in
+    first-turn _ _ 0 (omega (arith, b .pre, ap length (line-joined (b .args .numbers .now))))
 
-inside : (c : tie.In-loop Inv-loop μ-loop) → c .before .loop .i < length (words (numbers (c .before)))
-inside c = rw (words-long (numbers (c .before))) (omega arith)
+-- the next number's text and the byte after it
+abbrev next : tie.At-loop Inv-loop μ-loop → List ℕ
+next c = word (numbers c) (c .loop .i)
+
+one : (c : tie.In-loop Inv-loop μ-loop) → More (c .before .loop .inv) (next (c .before))
+one c =
+    let l = c .before in
+    more (l .loop .inv) (rw (words-long (numbers l)) (omega arith)) (next l) (word-at (numbers l) (l .loop .i) (omega arith))
 
 -- what a turn writes fits
 room : (c : tie.In-loop Inv-loop μ-loop) →
@@ -40,9 +47,7 @@ room : (c : tie.In-loop Inv-loop μ-loop) →
     (l .loop .at + (length (decimal (getD (numbers l) (l .loop .i) 0)) + 1) ≤ length (l .loop .out)) × (length (l .loop .out) ≡ length (first l))
 room c =
     let l = c .before in
-    let w = word (numbers l) (l .loop .i) in
-    let f = fits (words (numbers l)) (first l) 0 (l .loop .out) (l .loop .at) (l .loop .i) (enough l) (l .loop .inv) (inside c) w (word-at (numbers l) (l .loop .i) (omega arith)) in
-    (omega (arith, f, length-append (decimal (getD (numbers l) (l .loop .i) 0)) (after (drop (l .loop .i + 1) (numbers l)) ∷ [])), l .loop .inv .long)
+    (omega (arith, one c .fits, length-append (decimal (getD (numbers l) (l .loop .i) 0)) (after (drop (l .loop .i + 1) (numbers l)) ∷ [])), l .loop .inv .long)
 
 put-one-requires : tie.Need-put-one-requires Inv-loop μ-loop
 put-one-requires c κs = simp (length-take, length-drop) (omega (arith, room (c .before .before .before)))
@@ -61,15 +66,14 @@ loop-again c =
     let long : length (word ns i) ≡ p .result = length-append (decimal (getD ns i 0)) (after (drop (i + 1) ns) ∷ []) ∙ sym (p .ensures .0) in
     let has : length (word ns i) ≤ length rest = rw long (simp (length-take, length-drop) (omega (arith, room t, p .ensures .0))) in
     let put-is = p .ensures .1 ∙ ap (λ b. over (decimal (getD ns i 0) ++ (b ∷ [])) rest) (c .before .before .before .after .ensures ∙ after-is ns i (omega arith)) in
-    next-turn (words ns) (first l) 0 (l .loop .out) (l .loop .at) i (enough l) (l .loop .inv) (inside t) (word ns i) (word-at ns i (omega arith)) (p .last .0) (p .result) (with-room (word ns i) rest has (p .result) (p .last .0) (sym long) put-is .1) long
+    one t .next (p .last .0) (p .result) (with-room (word ns i) rest has (p .result) (p .last .0) (sym long) put-is .1) long
 
 returns : tie.Need-returns Inv-loop μ-loop
 returns c =
     let l = c .before in
     let ns = numbers l in
-    let done : length (words ns) ≤ l .loop .i = rw (words-long ns) (omega arith) in
-    all-written (words ns) (first l) 0 (l .loop .out) (l .loop .at) (l .loop .i) (enough l) (l .loop .inv) done
-    ∙ stores (joined (words ns)) (first l) (omega (arith, enough l))
+    done (l .loop .inv) (rw (words-long ns) (omega arith)) .same
+    ∙ stores (joined (words ns)) (first l) (omega (arith, l .loop .inv .room))
     ∙ ap (λ t. over t (first l)) (line-joined ns)
 
 pub put-spec : {M : Type 1} → statement M
@@ -78,7 +82,7 @@ put-spec =
     (tie.spec
     Inv-loop
     μ-loop
-    (λ c. first-turn _ _ 0)
+    loop-holds
     (λ c. omega (arith, room c))
     (λ c. omega (arith, room c))
     (λ c. search needs)
