@@ -21,7 +21,7 @@ use Rattle.state_parts.specs.declared.watchdog.Watchdog.{Watchdog}
 use Rattle.state_parts.specs.declared.sample.Sample.{Sample}
 use Rattle.state_parts.specs.declared.state.State.{State}
 use Rattle.log_number.specs.Ibat.{signedOf}
-use Rattle.c_list.specs.Places.{profileAt, settingsAt, registersAt, latchesAt, cycleAt, watchdogAt, sampleAt, phaseAt, bandAt, flagsAt}
+use Rattle.c_list.specs.Places.{profilePlace, settingsPlace, registersPlace, latchesPlace, cyclePlace, watchdogPlace, samplePlace, phasePlace, bandPlace, flagsPlace}
 
 -- the i-th number of a part that starts at a place of the list
 abbrev number : List ℕ → ℕ → ℕ → ℕ
@@ -117,14 +117,14 @@ flagsFrom n = record {
 
 unfoldable pub stateFrom : List ℕ → State
 stateFrom all = record {
-  profile = profileFrom all profileAt;
-  settings = settingsFrom all settingsAt;
-  registers = registersFrom all registersAt;
-  latches = latchesFrom all latchesAt;
-  cycle = cycleFrom all cycleAt;
-  watchdog = watchdogFrom all watchdogAt;
-  sample = sampleFrom all sampleAt;
-  phase = phaseFrom (number all phaseAt 0);
-  band = bandFrom (number all bandAt 0);
-  flags = flagsFrom (number all flagsAt 0);
+  profile = profileFrom all profilePlace;
+  settings = settingsFrom all settingsPlace;
+  registers = registersFrom all registersPlace;
+  latches = latchesFrom all latchesPlace;
+  cycle = cycleFrom all cyclePlace;
+  watchdog = watchdogFrom all watchdogPlace;
+  sample = sampleFrom all samplePlace;
+  phase = phaseFrom (number all phasePlace 0);
+  band = bandFrom (number all bandPlace 0);
+  flags = flagsFrom (number all flagsPlace 0);
 }

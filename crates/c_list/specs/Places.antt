@@ -31,36 +31,36 @@ bandCount = 1
 abbrev flagsCount : ℕ
 flagsCount = 1
 
-abbrev pub profileAt : ℕ
-profileAt = 0
+abbrev pub profilePlace : ℕ
+profilePlace = 0
 
-abbrev pub settingsAt : ℕ
-settingsAt = profileAt + profileCount
+abbrev pub settingsPlace : ℕ
+settingsPlace = profilePlace + profileCount
 
-abbrev pub registersAt : ℕ
-registersAt = settingsAt + settingsCount
+abbrev pub registersPlace : ℕ
+registersPlace = settingsPlace + settingsCount
 
-abbrev pub latchesAt : ℕ
-latchesAt = registersAt + registersCount
+abbrev pub latchesPlace : ℕ
+latchesPlace = registersPlace + registersCount
 
-abbrev pub cycleAt : ℕ
-cycleAt = latchesAt + latchesCount
+abbrev pub cyclePlace : ℕ
+cyclePlace = latchesPlace + latchesCount
 
-abbrev pub watchdogAt : ℕ
-watchdogAt = cycleAt + cycleCount
+abbrev pub watchdogPlace : ℕ
+watchdogPlace = cyclePlace + cycleCount
 
-abbrev pub sampleAt : ℕ
-sampleAt = watchdogAt + watchdogCount
+abbrev pub samplePlace : ℕ
+samplePlace = watchdogPlace + watchdogCount
 
-abbrev pub phaseAt : ℕ
-phaseAt = sampleAt + sampleCount
+abbrev pub phasePlace : ℕ
+phasePlace = samplePlace + sampleCount
 
-abbrev pub bandAt : ℕ
-bandAt = phaseAt + phaseCount
+abbrev pub bandPlace : ℕ
+bandPlace = phasePlace + phaseCount
 
-abbrev pub flagsAt : ℕ
-flagsAt = bandAt + bandCount
+abbrev pub flagsPlace : ℕ
+flagsPlace = bandPlace + bandCount
 
 -- how many there are
 abbrev pub stateCount : ℕ
-stateCount = flagsAt + flagsCount
+stateCount = flagsPlace + flagsCount

@@ -24,14 +24,14 @@ use state_parts::settings::Settings;
 use state_parts::state::State;
 ghost use mathlib.Core.Path.{_≡_};
 ghost use lib.Seq.{sets};
-ghost use Rattle.c_list.specs.Places.{profileAt, settingsAt, registersAt, latchesAt, cycleAt, sampleAt, phaseAt};
+ghost use Rattle.c_list.specs.Places.{profilePlace, settingsPlace, registersPlace, latchesPlace, cyclePlace, samplePlace, phasePlace};
 ghost use Rattle.c_list.specs.Numbers.{profileNumbers, settingsNumbers, registersNumbers, latchesNumbers, cycleNumbers, sampleNumbers, judgedNumbers, stateNumbers};
 
 // A state's numbers.
 pub type Numbers = [u32; COUNT];
 
 fn with_profile(before: Numbers, p: Profile) -> Numbers
-    ensures { λ r. ⌜ r ≡ sets before profileAt (profileNumbers p) ⌝ }
+    ensures { λ r. ⌜ r ≡ sets before profilePlace (profileNumbers p) ⌝ }
 {
     let mut all = before;
     all[0] = p.cell;
@@ -48,7 +48,7 @@ fn with_profile(before: Numbers, p: Profile) -> Numbers
 }
 
 fn with_settings(before: Numbers, s: Settings) -> Numbers
-    ensures { λ r. ⌜ r ≡ sets before settingsAt (settingsNumbers s) ⌝ }
+    ensures { λ r. ⌜ r ≡ sets before settingsPlace (settingsNumbers s) ⌝ }
 {
     let vreg = s.vreg;
     let vsysmin = s.vsysmin;
@@ -71,7 +71,7 @@ fn with_settings(before: Numbers, s: Settings) -> Numbers
 }
 
 fn with_registers(before: Numbers, g: Registers) -> Numbers
-    ensures { λ r. ⌜ r ≡ sets before registersAt (registersNumbers g) ⌝ }
+    ensures { λ r. ⌜ r ≡ sets before registersPlace (registersNumbers g) ⌝ }
 {
     let mut all = before;
     all[REGISTERS] = g.r15 as u32;
@@ -88,7 +88,7 @@ fn with_registers(before: Numbers, g: Registers) -> Numbers
 }
 
 fn with_latches(before: Numbers, l: Latches) -> Numbers
-    ensures { λ r. ⌜ r ≡ sets before latchesAt (latchesNumbers l) ⌝ }
+    ensures { λ r. ⌜ r ≡ sets before latchesPlace (latchesNumbers l) ⌝ }
 {
     let mut all = before;
     all[LATCHES] = bit(l.inputok);
@@ -100,7 +100,7 @@ fn with_latches(before: Numbers, l: Latches) -> Numbers
 }
 
 fn with_cycle(before: Numbers, c: Cycle) -> Numbers
-    ensures { λ r. ⌜ r ≡ sets before cycleAt (cycleNumbers c) ⌝ }
+    ensures { λ r. ⌜ r ≡ sets before cyclePlace (cycleNumbers c) ⌝ }
 {
     let mut all = before;
     all[CYCLE] = c.trickle;
@@ -111,7 +111,7 @@ fn with_cycle(before: Numbers, c: Cycle) -> Numbers
 }
 
 fn with_sample(before: Numbers, x: Sample) -> Numbers
-    ensures { λ r. ⌜ r ≡ sets before sampleAt (sampleNumbers x) ⌝ }
+    ensures { λ r. ⌜ r ≡ sets before samplePlace (sampleNumbers x) ⌝ }
 {
     let mut all = before;
     all[SAMPLE] = x.stamp;
@@ -124,7 +124,7 @@ fn with_sample(before: Numbers, x: Sample) -> Numbers
 }
 
 fn with_judged(before: Numbers, s: State) -> Numbers
-    ensures { λ r. ⌜ r ≡ sets before phaseAt (judgedNumbers s) ⌝ }
+    ensures { λ r. ⌜ r ≡ sets before phasePlace (judgedNumbers s) ⌝ }
 {
     let at = s.phase;
     let band = s.band;

@@ -23,11 +23,11 @@ use state_parts::settings::Settings;
 use state_parts::state::State;
 use state_parts::watchdog::Watchdog;
 ghost use mathlib.Core.Path.{_≡_};
-ghost use Rattle.c_list.specs.Places.{profileAt, settingsAt, registersAt, latchesAt, cycleAt, sampleAt};
+ghost use Rattle.c_list.specs.Places.{profilePlace, settingsPlace, registersPlace, latchesPlace, cyclePlace, samplePlace};
 ghost use Rattle.c_list.specs.Back.{profileFrom, settingsFrom, registersFrom, latchesFrom, cycleFrom, sampleFrom, phaseFrom, bandFrom, flagsFrom, stateFrom};
 
 fn profile(all: Numbers) -> Profile
-    ensures { λ r. ⌜ r ≡ profileFrom all profileAt ⌝ }
+    ensures { λ r. ⌜ r ≡ profileFrom all profilePlace ⌝ }
 {
     Profile {
         cell: all[0],
@@ -44,7 +44,7 @@ fn profile(all: Numbers) -> Profile
 }
 
 fn settings(all: Numbers) -> Settings
-    ensures { λ r. ⌜ r ≡ settingsFrom all settingsAt ⌝ }
+    ensures { λ r. ⌜ r ≡ settingsFrom all settingsPlace ⌝ }
 {
     let vreg = volts::pack(all[SETTINGS]);
     let vsysmin = volts::pack(all[SETTINGS + 5]);
@@ -67,7 +67,7 @@ fn settings(all: Numbers) -> Settings
 }
 
 fn registers(all: Numbers) -> Registers
-    ensures { λ r. ⌜ r ≡ registersFrom all registersAt ⌝ }
+    ensures { λ r. ⌜ r ≡ registersFrom all registersPlace ⌝ }
 {
     Registers {
         r15: (all[REGISTERS] % 256) as u8,
@@ -84,7 +84,7 @@ fn registers(all: Numbers) -> Registers
 }
 
 fn latches(all: Numbers) -> Latches
-    ensures { λ r. ⌜ r ≡ latchesFrom all latchesAt ⌝ }
+    ensures { λ r. ⌜ r ≡ latchesFrom all latchesPlace ⌝ }
 {
     Latches {
         inputok: all[LATCHES] == 1,
@@ -96,7 +96,7 @@ fn latches(all: Numbers) -> Latches
 }
 
 fn cycle(all: Numbers) -> Cycle
-    ensures { λ r. ⌜ r ≡ cycleFrom all cycleAt ⌝ }
+    ensures { λ r. ⌜ r ≡ cycleFrom all cyclePlace ⌝ }
 {
     Cycle {
         trickle: all[CYCLE],
@@ -107,7 +107,7 @@ fn cycle(all: Numbers) -> Cycle
 }
 
 fn sample(all: Numbers) -> Sample
-    ensures { λ r. ⌜ r ≡ sampleFrom all sampleAt ⌝ }
+    ensures { λ r. ⌜ r ≡ sampleFrom all samplePlace ⌝ }
 {
     let current = ibat::signed(all[SAMPLE + 3]);
     Sample {

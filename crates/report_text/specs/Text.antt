@@ -3,15 +3,15 @@ use Prim.Native.Nat.{ℕ, _+_, _*_}
 use mathlib.Core.List.{List, [], _∷_, _++_}
 use Rattle.report_text.specs.Decimal.{decimal, mostDigits}
 
--- The byte after a number: 32, a space, where more numbers follow; 10, a newline, after the last.
-abbrev pub after : List ℕ → ℕ
-after [] = 10
-after (n ∷ more) = 32
+-- The byte after a number: 32, a space, if more numbers follow; 10, a newline, after the last.
+abbrev pub byteAfter : List ℕ → ℕ
+byteAfter [] = 10
+byteAfter (n ∷ more) = 32
 
 -- "each record gives: number, kind, answer (0 or refusal), phase, current, voltage, input limit, pulse, flags, in decimal, one space apart."
 unfoldable pub lineText : List ℕ → List ℕ
 lineText [] = []
-lineText (n ∷ more) = decimal n ++ (after more ∷ lineText more)
+lineText (n ∷ more) = decimal n ++ (byteAfter more ∷ lineText more)
 
 -- a record's line has so many numbers, and no line that is written has more
 abbrev pub lineCount : ℕ

@@ -1,5 +1,5 @@
 -- `page` meets its contract: the lines as pieces, one after the other.
-use Prim.Native.Nat.{ℕ, _-_, _+_, _^_, _≤_, _<_}
+use Prim.Native.Nat.{ℕ, _-_, _^_, _≤_, _<_}
 use mathlib.Core.Path.{_≡_, ap, _∙_}
 use mathlib.Core.List.{List}
 use native.Mathlib.Omega.{arith}

@@ -1,5 +1,5 @@
 -- `put` meets its contract: the line's pieces, one after the other.
-use Prim.Native.Nat.{ℕ, _+_, _-_, _≤_, _<_}
+use Prim.Native.Nat.{ℕ, _+_, _-_, _≤_}
 use mathlib.Core.Path.{_≡_, sym, ap, _∙_}
 use mathlib.Core.List.{List, [], _∷_, _++_}
 use native.Mathlib.Omega.{arith}
@@ -7,7 +7,7 @@ use borrow.Author.Needs.{needs}
 use lib.ListN.{length, take, drop, getD, length-append, length-take, length-drop}
 use Rattle.base.proofs.Pieces.{joined, Turn, first-turn, More, more, done}
 use Rattle.report_text.specs.Decimal.{decimal}
-use Rattle.report_text.specs.Text.{after}
+use Rattle.report_text.specs.Text.{byteAfter}
 use Rattle.report_text.specs.Writing.{over}
 use Rattle.report_text.proofs.Parts.{stores}
 use Rattle.report_text.proofs.Outcomes.{with-room}
@@ -47,7 +47,7 @@ room : (c : tie.In-loop Inv-loop μ-loop) →
     (l .loop .at + (length (decimal (getD (numbers l) (l .loop .i) 0)) + 1) ≤ length (l .loop .out)) × (length (l .loop .out) ≡ length (first l))
 room c =
     let l = c .before in
-    (omega (arith, one c .fits, length-append (decimal (getD (numbers l) (l .loop .i) 0)) (after (drop (l .loop .i + 1) (numbers l)) ∷ [])), l .loop .inv .long)
+    (omega (arith, one c .fits, length-append (decimal (getD (numbers l) (l .loop .i) 0)) (byteAfter (drop (l .loop .i + 1) (numbers l)) ∷ [])), l .loop .inv .long)
 
 put-one-requires : tie.Need-put-one-requires Inv-loop μ-loop
 put-one-requires c κs = simp (length-take, length-drop) (omega (arith, room (c .before .before .before)))
@@ -63,7 +63,7 @@ loop-again c =
     let i = l .loop .i in
     let p = c .before .before .put-one in
     let rest : List ℕ = take (length (l .loop .out) - l .loop .at) (drop (l .loop .at) (l .loop .out)) in
-    let long : length (word ns i) ≡ p .result = length-append (decimal (getD ns i 0)) (after (drop (i + 1) ns) ∷ []) ∙ sym (p .ensures .0) in
+    let long : length (word ns i) ≡ p .result = length-append (decimal (getD ns i 0)) (byteAfter (drop (i + 1) ns) ∷ []) ∙ sym (p .ensures .0) in
     let has : length (word ns i) ≤ length rest = rw long (simp (length-take, length-drop) (omega (arith, room t, p .ensures .0))) in
     let put-is = p .ensures .1 ∙ ap (λ b. over (decimal (getD ns i 0) ++ (b ∷ [])) rest) (c .before .before .before .after .ensures ∙ after-is ns i (omega arith)) in
     one t .next (p .last .0) (p .result) (with-room (word ns i) rest has (p .result) (p .last .0) (sym long) put-is .1) long
