@@ -15,14 +15,14 @@ use Rattle.c_words.specs.Words.{bytesOf}
 use Rattle.c_words.specs.Promises.{AllWords}
 use Rattle.c_words.proofs.WordLaws.{length-bytes, reads-back}
 use Rattle.c_event.specs.Given.{givenOf}
-use Rattle.c_event.specs.Promises.{EveryEvent, OneAnswer}
+use Rattle.c_event.specs.Promises.{EveryGiven, OneAnswer}
 use Rattle.c_event.specs.declared.Given.the-variants.{Event, Refused}
 
 all-words : (is : List Item) → AllFit is → AllWords (values is)
 all-words [] h = tt
 all-words (num n ∷ is) h = (h .0, all-words is (h .1))
 
-pub every-given : EveryEvent
+pub every-given : EveryGiven
 unfolding givenOf
 every-given e h =
     let ns : List ℕ = values (itemsOf e) in

@@ -7,7 +7,7 @@ use lib.Dec.{eqb}
 use Rattle.base.specs.Pick.{pick}
 use Rattle.base.specs.Refusals.{refusalNumber}
 use Rattle.base.specs.Told.{Told, accepted, refused}
-use Rattle.log_event.specs.Kinds.{Row, kinds, rowFor}
+use Rattle.log_event.specs.Kinds.{KindRow, kinds, rowFor}
 use Rattle.log_event.specs.Events.{eventOf}
 use Rattle.log_event.specs.declared.Event.{Event}
 use Rattle.c_words.specs.Words.{wordsIn}
@@ -19,11 +19,11 @@ givenTold (given.Event e) = accepted e
 givenTold (given.Refused r) = refused (refusalNumber r)
 
 -- "An unknown kind is 4; words that aren't as many are 5."
-abbrev pub ofRow : Option Row → List ℕ → Told Event
-ofRow none bytes = refused 4
-ofRow (some r) bytes =
+abbrev pub givenRow : Option KindRow → List ℕ → Told Event
+givenRow none bytes = refused 4
+givenRow (some r) bytes =
     let count = length (r .shapes) in
     pick (eqb (length bytes) (count * 4)) (accepted (eventOf (r .kind) (wordsIn count bytes))) (refused 5)
 
 unfoldable pub givenOf : ℕ → List ℕ → Told Event
-givenOf kind bytes = ofRow (rowFor kinds kind) bytes
+givenOf kind bytes = givenRow (rowFor kinds kind) bytes

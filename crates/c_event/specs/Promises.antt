@@ -10,8 +10,8 @@ use Rattle.c_event.specs.Given.{givenTold, givenOf}
 use Rattle.c_event.specs.declared.Given.{Given}
 
 -- every event is given by its kind and its numbers' words
-abbrev pub EveryEvent : Type 0
-EveryEvent = (e : Event) → AllFit (itemsOf e) → givenOf (kindByte (kindOf e)) (bytesOf (values (itemsOf e))) ≡ accepted e
+abbrev pub EveryGiven : Type 0
+EveryGiven = (e : Event) → AllFit (itemsOf e) → givenOf (kindByte (kindOf e)) (bytesOf (values (itemsOf e))) ≡ accepted e
 
 -- what is told of an answer settles it
 abbrev pub OneAnswer : Type 0

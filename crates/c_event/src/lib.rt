@@ -4,6 +4,7 @@ ghost use Rattle.c_event.specs.Given.{givenTold, givenOf};
 use base::refusal::Refusal;
 use log_event::Event;
 use log_event::fields;
+use log_event::fields::MOST;
 use log_event::kinds;
 use log_event::kinds::Known;
 
@@ -27,7 +28,7 @@ pub fn event_of(kind: u32, bytes: &[u8]) -> Given
     if bytes.len() != count * 4 {
         return Given::Refused(Refusal::OutOfRange);
     }
-    let mut all = [0u32; 10];
+    let mut all = [0u32; MOST];
     c_words::read(bytes, &mut all);
     Given::Event(fields::made(of, all))
 }

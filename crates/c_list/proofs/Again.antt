@@ -7,7 +7,8 @@ use Rattle.state_parts.specs.declared.band.Band.{Band}
 use Rattle.state_parts.specs.declared.band.Band.the-variants.{Normal, Cold, Hot, Cool, Warm}
 use Rattle.state_parts.specs.declared.phase.Phase.{Phase}
 use Rattle.state_parts.specs.declared.phase.Phase.the-variants.{Idle, Trickle, Precharge, Fast, Taper, Done, Suspended, Fault}
-use Rattle.log_event.proofs.Remaking.{signs}
+use Rattle.state_settings.specs.Numbered.{settingNumbers}
+use Rattle.log_number.proofs.SignLaws.{signs}
 use Rattle.c_list.specs.Numbers.{stateNumbers}
 use Rattle.c_list.specs.Back.{phaseFrom, bandFrom, stateFrom}
 use Rattle.c_list.specs.Promises.{MadeAgain}
@@ -34,7 +35,7 @@ byte-back : (n : ℕ) → n < 256 → n % 256 ≡ n
 byte-back n h = omega arith
 
 pub made-again : MadeAgain
-unfolding stateFrom stateNumbers
+unfolding stateFrom stateNumbers settingNumbers
 made-again s h =
     let g = s .registers in
     rw (

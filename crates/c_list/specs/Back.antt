@@ -20,7 +20,8 @@ use Rattle.state_parts.specs.declared.cycle.Cycle.{Cycle}
 use Rattle.state_parts.specs.declared.watchdog.Watchdog.{Watchdog}
 use Rattle.state_parts.specs.declared.sample.Sample.{Sample}
 use Rattle.state_parts.specs.declared.state.State.{State}
-use Rattle.log_event.specs.Ibat.{signedOf}
+use Rattle.log_number.specs.Ibat.{signedOf}
+use Rattle.c_list.specs.Places.{profilePlace, settingsPlace, registersPlace, latchesPlace, cyclePlace, watchdogPlace, samplePlace, phasePlace, bandPlace, flagsPlace}
 
 -- the i-th number of a part that starts at a place of the list
 abbrev number : List ℕ → ℕ → ℕ → ℕ
@@ -116,14 +117,14 @@ flagsFrom n = record {
 
 unfoldable pub stateFrom : List ℕ → State
 stateFrom all = record {
-  profile = profileFrom all 0;
-  settings = settingsFrom all 10;
-  registers = registersFrom all 24;
-  latches = latchesFrom all 34;
-  cycle = cycleFrom all 39;
-  watchdog = watchdogFrom all 43;
-  sample = sampleFrom all 44;
-  phase = phaseFrom (number all 50 0);
-  band = bandFrom (number all 51 0);
-  flags = flagsFrom (number all 52 0);
+  profile = profileFrom all profilePlace;
+  settings = settingsFrom all settingsPlace;
+  registers = registersFrom all registersPlace;
+  latches = latchesFrom all latchesPlace;
+  cycle = cycleFrom all cyclePlace;
+  watchdog = watchdogFrom all watchdogPlace;
+  sample = sampleFrom all samplePlace;
+  phase = phaseFrom (number all phasePlace 0);
+  band = bandFrom (number all bandPlace 0);
+  flags = flagsFrom (number all flagsPlace 0);
 }

@@ -2,9 +2,8 @@
 use Prim.Native.Nat.{ℕ}
 use mathlib.Core.Path.{_≡_}
 use mathlib.Core.List.{List, [], _∷_, _++_}
-use lib.ListN.{length}
+use lib.ListN.{length, drop}
 use Rattle.base.specs.Pick.{bitOf}
-use Rattle.base.specs.Volts.{millivoltsOf}
 use Rattle.state_parts.specs.Edges.{flagsNumber}
 use Rattle.state_parts.specs.Numbers.{phaseNumber, bandNumber}
 use Rattle.state_parts.specs.declared.profile.Profile.{Profile}
@@ -15,17 +14,17 @@ use Rattle.state_parts.specs.declared.cycle.Cycle.{Cycle}
 use Rattle.state_parts.specs.declared.watchdog.Watchdog.{Watchdog}
 use Rattle.state_parts.specs.declared.sample.Sample.{Sample}
 use Rattle.state_parts.specs.declared.state.State.{State}
-use Rattle.log_event.specs.Ibat.{loggedOf}
+use Rattle.state_settings.specs.Numbered.{settingNumbers}
+use Rattle.log_number.specs.Ibat.{loggedOf}
+use Rattle.c_list.specs.Places.{stateCount}
 
 -- "a power-on's ten numbers, in the log's order"
 abbrev pub profileNumbers : Profile → List ℕ
 profileNumbers p = p .cell ∷ p .vchg ∷ p .ichg ∷ p .ohms ∷ p .stamp ∷ p .ceiling ∷ p .trickle ∷ p .precharge ∷ p .fast ∷ p .watchdog ∷ []
 
--- "settings 1 to 14"
+-- "settings 1 to 14": by their numbers, from 1
 abbrev pub settingsNumbers : Settings → List ℕ
-settingsNumbers s =
-    millivoltsOf (s .vreg) ∷ s .ichg ∷ s .iprechg ∷ s .iterm ∷ s .iindpm ∷ millivoltsOf (s .vsysmin) ∷ s .lowv ∷ s .vrechg
-    ∷ bitOf (s .enchg) ∷ bitOf (s .enterm) ∷ bitOf (s .enhiz) ∷ bitOf (s .enextilim) ∷ bitOf (s .disstat) ∷ s .masks ∷ []
+settingsNumbers s = drop 1 (settingNumbers s)
 
 -- "the bytes 0x15 to 0x1A; CELL_PIN; the VCHG, CELL and ICHG overrides"
 abbrev pub registersNumbers : Registers → List ℕ
@@ -65,4 +64,4 @@ stateNumbers s =
 
 -- every state has as many
 abbrev pub StateLong : Type 0
-StateLong = (s : State) → length (stateNumbers s) ≡ 53
+StateLong = (s : State) → length (stateNumbers s) ≡ stateCount

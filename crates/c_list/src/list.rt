@@ -1,7 +1,17 @@
 // A state's numbers, one list: each part stores its own.
+use crate::places::BAND;
+use crate::places::COUNT;
+use crate::places::CYCLE;
+use crate::places::FLAGS;
+use crate::places::LATCHES;
+use crate::places::PHASE;
+use crate::places::REGISTERS;
+use crate::places::SAMPLE;
+use crate::places::SETTINGS;
+use crate::places::WATCHDOG;
 use base::choice::bit;
 use base::volts;
-use log_event::ibat;
+use log_number::ibat;
 use state_parts::band;
 use state_parts::cycle::Cycle;
 use state_parts::flags;
@@ -14,13 +24,14 @@ use state_parts::settings::Settings;
 use state_parts::state::State;
 ghost use mathlib.Core.Path.{_≡_};
 ghost use lib.Seq.{sets};
+ghost use Rattle.c_list.specs.Places.{profilePlace, settingsPlace, registersPlace, latchesPlace, cyclePlace, samplePlace, phasePlace};
 ghost use Rattle.c_list.specs.Numbers.{profileNumbers, settingsNumbers, registersNumbers, latchesNumbers, cycleNumbers, sampleNumbers, judgedNumbers, stateNumbers};
 
 // A state's numbers.
-pub type Numbers = [u32; 53];
+pub type Numbers = [u32; COUNT];
 
 fn with_profile(before: Numbers, p: Profile) -> Numbers
-    ensures { λ r. ⌜ r ≡ sets before 0 (profileNumbers p) ⌝ }
+    ensures { λ r. ⌜ r ≡ sets before profilePlace (profileNumbers p) ⌝ }
 {
     let mut all = before;
     all[0] = p.cell;
@@ -37,91 +48,91 @@ fn with_profile(before: Numbers, p: Profile) -> Numbers
 }
 
 fn with_settings(before: Numbers, s: Settings) -> Numbers
-    ensures { λ r. ⌜ r ≡ sets before 10 (settingsNumbers s) ⌝ }
+    ensures { λ r. ⌜ r ≡ sets before settingsPlace (settingsNumbers s) ⌝ }
 {
     let vreg = s.vreg;
     let vsysmin = s.vsysmin;
     let mut all = before;
-    all[10] = volts::millivolts(vreg);
-    all[11] = s.ichg;
-    all[12] = s.iprechg;
-    all[13] = s.iterm;
-    all[14] = s.iindpm;
-    all[15] = volts::millivolts(vsysmin);
-    all[16] = s.lowv;
-    all[17] = s.vrechg;
-    all[18] = bit(s.enchg);
-    all[19] = bit(s.enterm);
-    all[20] = bit(s.enhiz);
-    all[21] = bit(s.enextilim);
-    all[22] = bit(s.disstat);
-    all[23] = s.masks;
+    all[SETTINGS] = volts::millivolts(vreg);
+    all[SETTINGS + 1] = s.ichg;
+    all[SETTINGS + 2] = s.iprechg;
+    all[SETTINGS + 3] = s.iterm;
+    all[SETTINGS + 4] = s.iindpm;
+    all[SETTINGS + 5] = volts::millivolts(vsysmin);
+    all[SETTINGS + 6] = s.lowv;
+    all[SETTINGS + 7] = s.vrechg;
+    all[SETTINGS + 8] = bit(s.enchg);
+    all[SETTINGS + 9] = bit(s.enterm);
+    all[SETTINGS + 10] = bit(s.enhiz);
+    all[SETTINGS + 11] = bit(s.enextilim);
+    all[SETTINGS + 12] = bit(s.disstat);
+    all[SETTINGS + 13] = s.masks;
     all
 }
 
 fn with_registers(before: Numbers, g: Registers) -> Numbers
-    ensures { λ r. ⌜ r ≡ sets before 24 (registersNumbers g) ⌝ }
+    ensures { λ r. ⌜ r ≡ sets before registersPlace (registersNumbers g) ⌝ }
 {
     let mut all = before;
-    all[24] = g.r15 as u32;
-    all[25] = g.r16 as u32;
-    all[26] = g.r17 as u32;
-    all[27] = g.r18 as u32;
-    all[28] = g.r19 as u32;
-    all[29] = g.r1a as u32;
-    all[30] = g.cells;
-    all[31] = bit(g.vchgoverride);
-    all[32] = bit(g.celloverride);
-    all[33] = bit(g.ichgoverride);
+    all[REGISTERS] = g.r15 as u32;
+    all[REGISTERS + 1] = g.r16 as u32;
+    all[REGISTERS + 2] = g.r17 as u32;
+    all[REGISTERS + 3] = g.r18 as u32;
+    all[REGISTERS + 4] = g.r19 as u32;
+    all[REGISTERS + 5] = g.r1a as u32;
+    all[REGISTERS + 6] = g.cells;
+    all[REGISTERS + 7] = bit(g.vchgoverride);
+    all[REGISTERS + 8] = bit(g.celloverride);
+    all[REGISTERS + 9] = bit(g.ichgoverride);
     all
 }
 
 fn with_latches(before: Numbers, l: Latches) -> Numbers
-    ensures { λ r. ⌜ r ≡ sets before 34 (latchesNumbers l) ⌝ }
+    ensures { λ r. ⌜ r ≡ sets before latchesPlace (latchesNumbers l) ⌝ }
 {
     let mut all = before;
-    all[34] = bit(l.inputok);
-    all[35] = bit(l.inputover);
-    all[36] = bit(l.short);
-    all[37] = bit(l.low);
-    all[38] = bit(l.packover);
+    all[LATCHES] = bit(l.inputok);
+    all[LATCHES + 1] = bit(l.inputover);
+    all[LATCHES + 2] = bit(l.short);
+    all[LATCHES + 3] = bit(l.low);
+    all[LATCHES + 4] = bit(l.packover);
     all
 }
 
 fn with_cycle(before: Numbers, c: Cycle) -> Numbers
-    ensures { λ r. ⌜ r ≡ sets before 39 (cycleNumbers c) ⌝ }
+    ensures { λ r. ⌜ r ≡ sets before cyclePlace (cycleNumbers c) ⌝ }
 {
     let mut all = before;
-    all[39] = c.trickle;
-    all[40] = c.precharge;
-    all[41] = c.fast;
-    all[42] = bit(c.done);
+    all[CYCLE] = c.trickle;
+    all[CYCLE + 1] = c.precharge;
+    all[CYCLE + 2] = c.fast;
+    all[CYCLE + 3] = bit(c.done);
     all
 }
 
 fn with_sample(before: Numbers, x: Sample) -> Numbers
-    ensures { λ r. ⌜ r ≡ sets before 44 (sampleNumbers x) ⌝ }
+    ensures { λ r. ⌜ r ≡ sets before samplePlace (sampleNumbers x) ⌝ }
 {
     let mut all = before;
-    all[44] = x.stamp;
-    all[45] = x.input;
-    all[46] = x.pack;
-    all[47] = ibat::logged(x.ibat);
-    all[48] = x.ts;
-    all[49] = x.bits;
+    all[SAMPLE] = x.stamp;
+    all[SAMPLE + 1] = x.input;
+    all[SAMPLE + 2] = x.pack;
+    all[SAMPLE + 3] = ibat::logged(x.ibat);
+    all[SAMPLE + 4] = x.ts;
+    all[SAMPLE + 5] = x.bits;
     all
 }
 
 fn with_judged(before: Numbers, s: State) -> Numbers
-    ensures { λ r. ⌜ r ≡ sets before 50 (judgedNumbers s) ⌝ }
+    ensures { λ r. ⌜ r ≡ sets before phasePlace (judgedNumbers s) ⌝ }
 {
     let at = s.phase;
     let band = s.band;
     let held = s.flags;
     let mut all = before;
-    all[50] = phase::number(at);
-    all[51] = band::number(band);
-    all[52] = flags::number(held);
+    all[PHASE] = phase::number(at);
+    all[BAND] = band::number(band);
+    all[FLAGS] = flags::number(held);
     all
 }
 
@@ -136,12 +147,12 @@ pub fn numbers_of(s: State) -> Numbers
     let cycle = s.cycle;
     let watchdog = s.watchdog;
     let sample = s.sample;
-    let a = with_profile([0u32; 53], profile);
+    let a = with_profile([0u32; COUNT], profile);
     let b = with_settings(a, settings);
     let c = with_registers(b, registers);
     let d = with_latches(c, latches);
     let mut e = with_cycle(d, cycle);
-    e[43] = watchdog.count;
+    e[WATCHDOG] = watchdog.count;
     let f = with_sample(e, sample);
     with_judged(f, s)
 }

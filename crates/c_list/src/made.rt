@@ -1,7 +1,16 @@
 // A state out of a list of numbers: every list makes one.
 use crate::list::Numbers;
+use crate::places::BAND;
+use crate::places::CYCLE;
+use crate::places::FLAGS;
+use crate::places::LATCHES;
+use crate::places::PHASE;
+use crate::places::REGISTERS;
+use crate::places::SAMPLE;
+use crate::places::SETTINGS;
+use crate::places::WATCHDOG;
 use base::volts;
-use log_event::ibat;
+use log_number::ibat;
 use state_parts::band::Band;
 use state_parts::cycle::Cycle;
 use state_parts::flags::Flags;
@@ -14,10 +23,11 @@ use state_parts::settings::Settings;
 use state_parts::state::State;
 use state_parts::watchdog::Watchdog;
 ghost use mathlib.Core.Path.{_≡_};
+ghost use Rattle.c_list.specs.Places.{profilePlace, settingsPlace, registersPlace, latchesPlace, cyclePlace, samplePlace};
 ghost use Rattle.c_list.specs.Back.{profileFrom, settingsFrom, registersFrom, latchesFrom, cycleFrom, sampleFrom, phaseFrom, bandFrom, flagsFrom, stateFrom};
 
 fn profile(all: Numbers) -> Profile
-    ensures { λ r. ⌜ r ≡ profileFrom all 0 ⌝ }
+    ensures { λ r. ⌜ r ≡ profileFrom all profilePlace ⌝ }
 {
     Profile {
         cell: all[0],
@@ -34,79 +44,79 @@ fn profile(all: Numbers) -> Profile
 }
 
 fn settings(all: Numbers) -> Settings
-    ensures { λ r. ⌜ r ≡ settingsFrom all 10 ⌝ }
+    ensures { λ r. ⌜ r ≡ settingsFrom all settingsPlace ⌝ }
 {
-    let vreg = volts::pack(all[10]);
-    let vsysmin = volts::pack(all[15]);
+    let vreg = volts::pack(all[SETTINGS]);
+    let vsysmin = volts::pack(all[SETTINGS + 5]);
     Settings {
         vreg,
-        ichg: all[11],
-        iprechg: all[12],
-        iterm: all[13],
-        iindpm: all[14],
+        ichg: all[SETTINGS + 1],
+        iprechg: all[SETTINGS + 2],
+        iterm: all[SETTINGS + 3],
+        iindpm: all[SETTINGS + 4],
         vsysmin,
-        lowv: all[16],
-        vrechg: all[17],
-        enchg: all[18] == 1,
-        enterm: all[19] == 1,
-        enhiz: all[20] == 1,
-        enextilim: all[21] == 1,
-        disstat: all[22] == 1,
-        masks: all[23],
+        lowv: all[SETTINGS + 6],
+        vrechg: all[SETTINGS + 7],
+        enchg: all[SETTINGS + 8] == 1,
+        enterm: all[SETTINGS + 9] == 1,
+        enhiz: all[SETTINGS + 10] == 1,
+        enextilim: all[SETTINGS + 11] == 1,
+        disstat: all[SETTINGS + 12] == 1,
+        masks: all[SETTINGS + 13],
     }
 }
 
 fn registers(all: Numbers) -> Registers
-    ensures { λ r. ⌜ r ≡ registersFrom all 24 ⌝ }
+    ensures { λ r. ⌜ r ≡ registersFrom all registersPlace ⌝ }
 {
     Registers {
-        r15: (all[24] % 256) as u8,
-        r16: (all[25] % 256) as u8,
-        r17: (all[26] % 256) as u8,
-        r18: (all[27] % 256) as u8,
-        r19: (all[28] % 256) as u8,
-        r1a: (all[29] % 256) as u8,
-        cells: all[30],
-        vchgoverride: all[31] == 1,
-        celloverride: all[32] == 1,
-        ichgoverride: all[33] == 1,
+        r15: (all[REGISTERS] % 256) as u8,
+        r16: (all[REGISTERS + 1] % 256) as u8,
+        r17: (all[REGISTERS + 2] % 256) as u8,
+        r18: (all[REGISTERS + 3] % 256) as u8,
+        r19: (all[REGISTERS + 4] % 256) as u8,
+        r1a: (all[REGISTERS + 5] % 256) as u8,
+        cells: all[REGISTERS + 6],
+        vchgoverride: all[REGISTERS + 7] == 1,
+        celloverride: all[REGISTERS + 8] == 1,
+        ichgoverride: all[REGISTERS + 9] == 1,
     }
 }
 
 fn latches(all: Numbers) -> Latches
-    ensures { λ r. ⌜ r ≡ latchesFrom all 34 ⌝ }
+    ensures { λ r. ⌜ r ≡ latchesFrom all latchesPlace ⌝ }
 {
     Latches {
-        inputok: all[34] == 1,
-        inputover: all[35] == 1,
-        short: all[36] == 1,
-        low: all[37] == 1,
-        packover: all[38] == 1,
+        inputok: all[LATCHES] == 1,
+        inputover: all[LATCHES + 1] == 1,
+        short: all[LATCHES + 2] == 1,
+        low: all[LATCHES + 3] == 1,
+        packover: all[LATCHES + 4] == 1,
     }
 }
 
 fn cycle(all: Numbers) -> Cycle
-    ensures { λ r. ⌜ r ≡ cycleFrom all 39 ⌝ }
+    ensures { λ r. ⌜ r ≡ cycleFrom all cyclePlace ⌝ }
 {
     Cycle {
-        trickle: all[39],
-        precharge: all[40],
-        fast: all[41],
-        done: all[42] == 1,
+        trickle: all[CYCLE],
+        precharge: all[CYCLE + 1],
+        fast: all[CYCLE + 2],
+        done: all[CYCLE + 3] == 1,
     }
 }
 
 fn sample(all: Numbers) -> Sample
-    ensures { λ r. ⌜ r ≡ sampleFrom all 44 ⌝ }
+    ensures { λ r. ⌜ r ≡ sampleFrom all samplePlace ⌝ }
 {
-    let current = ibat::signed(all[47]);
+    let current = ibat::signed(all[SAMPLE + 3]);
     Sample {
-        stamp: all[44],
-        input: all[45],
-        pack: all[46],
+        stamp: all[SAMPLE],
+        input: all[SAMPLE + 1],
+        pack: all[SAMPLE + 2],
         ibat: current,
-        ts: all[48],
-        bits: all[49],
+        ts: all[SAMPLE + 4],
+        bits: all[SAMPLE + 5],
     }
 }
 
@@ -168,11 +178,13 @@ pub fn made(all: Numbers) -> State
     let registers = registers(all);
     let latches = latches(all);
     let cycle = cycle(all);
-    let watchdog = Watchdog { count: all[43] };
+    let watchdog = Watchdog {
+        count: all[WATCHDOG],
+    };
     let sample = sample(all);
-    let phase = phase(all[50]);
-    let band = band(all[51]);
-    let flags = flags(all[52]);
+    let phase = phase(all[PHASE]);
+    let band = band(all[BAND]);
+    let flags = flags(all[FLAGS]);
     State {
         profile,
         settings,

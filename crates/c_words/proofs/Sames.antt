@@ -10,7 +10,7 @@ use lib.Seq.{drop-cons}
 use borrow.Author.Tests.{eq-eqb}
 use Rattle.base.proofs.Tests.{eqb-iff, and-iff}
 use Rattle.c_words.specs.Same.{sameBytes}
-use Rattle.c_words.specs.Words.{wordBytes, bytesOf, wordAt}
+use Rattle.c_words.specs.Words.{bytesOf, wordAt}
 use Rattle.c_words.specs.Promises.{SameTold}
 use Rattle.c_words.proofs.WordLaws.{length-bytes, four-of, word-back}
 
@@ -47,7 +47,7 @@ differ a b h = go (sameBytes a b) refl
     go false e = refl
 
 -- ---- the loop: what is left to compare comes to the same
--- a word that is read is just its bytes
+-- a word that is read is exactly its bytes
 digits : (n a b c d : ℕ) → a < 256 → b < 256 → c < 256 → d < 256 → a + b * 256 + c * 65536 + d * 16777216 ≡ n
     → (n % 256 ≡ a) × (n / 256 % 256 ≡ b) × (n / 65536 % 256 ≡ c) × (n / 16777216 % 256 ≡ d)
 digits n a b c d ha hb hc hd e = (omega arith, omega arith, omega arith, omega arith)

@@ -16,7 +16,7 @@ AllWords (n ∷ ns) = (n < 2 ^ 32) × AllWords ns
 abbrev pub ReadsBack : Type 0
 ReadsBack = (ns : List ℕ) → AllWords ns → wordsIn (length ns) (bytesOf ns) ≡ ns
 
--- bytes are the same exactly where the test says so
+-- bytes are the same exactly if the test says so
 pub record SameTold : Type 0 where
   pub told : (a b : List ℕ) → sameBytes a b ≡ true → a ≡ b
   pub holds : (a : List ℕ) → sameBytes a a ≡ true

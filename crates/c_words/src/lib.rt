@@ -31,7 +31,7 @@ fn joined(first: u32, second: u32, third: u32, last: u32) -> u32
     first + second * 256 + third * 65536 + last * 16777216
 }
 
-// The word at a place: where it ends within the bytes, none of its bytes is asked for by itself.
+// The word at a place. If all four bytes are there they are read at once, with no test for each.
 fn word(bytes: &[u8], at: usize) -> u32
     requires { ⌜ at + 4 < 2 ^ 64 ⌝ }
     ensures { λ r. ⌜ r ≡ wordAt (now (bytes .entry)) at ⌝ }
@@ -73,7 +73,7 @@ fn bytes_of(n: u32) -> Four
     ]
 }
 
-// Writes words at the start of `out`, or nothing where they do not fit.
+// Writes words at the start of `out`, or nothing if they do not fit.
 pub fn write(out: &mut [u8], all: &[u32]) -> Written
     ensures { λ r. ⌜ (writtenTold r ≡ written (bytesOf (now (all .entry))) (now (out .entry))) × (now (out .exit) ≡ put (bytesOf (now (all .entry))) (now (out .entry))) ⌝ }
 {

@@ -1,4 +1,4 @@
-// Whether a part has just the bytes of words.
+// Whether a part has exactly the bytes of words.
 ghost use mathlib.Core.Path.{_≡_};
 ghost use Rattle.c_words.specs.Words.{bytesOf};
 ghost use Rattle.c_words.specs.Same.{sameBytes};

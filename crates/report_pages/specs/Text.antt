@@ -12,6 +12,10 @@ unfoldable pub linesText : List Line → List ℕ
 linesText [] = []
 linesText (l ∷ ls) = lineText (numbersOf l) ++ linesText ls
 
+-- how many lines a page has room for
+abbrev pub pageCount : ℕ
+pageCount = 16
+
 -- a page's first lines
 unfoldable pub pageText : ℕ → List Line → List ℕ
 pageText most lines = linesText (take most lines)

@@ -3,17 +3,18 @@ ghost use mathlib.Core.Path.{_≡_};
 ghost use Prim.Native.Nat.{_≤_, min};
 ghost use lib.ListN.{length, take};
 ghost use Rattle.base.specs.Writing.{put, written, writtenTold};
-ghost use Rattle.report_text.specs.Text.{lineText};
-ghost use Rattle.report_pages.specs.Text.{numbersOf, linesText, pageText};
+ghost use Rattle.report_pages.specs.Text.{numbersOf, linesText, pageCount, pageText};
 use base::refusal::Refusal;
 use base::written::Written;
 use report_state::line::Line;
-use report_text::decimal;
 use report_text::text;
 use report_text::text::LineNumbers;
 
+// How many lines a page has room for.
+pub const PAGE: usize = 16;
+
 // A page's lines.
-pub type PageLines = [Line; 16];
+pub type PageLines = [Line; PAGE];
 
 // The nine numbers of a line, in their order.
 fn numbers_of(line: Line) -> LineNumbers
@@ -32,26 +33,16 @@ fn numbers_of(line: Line) -> LineNumbers
     ]
 }
 
-// How many bytes a line of text has.
-fn line_width(n: LineNumbers) -> usize
-    ensures { λ r. ⌜ (r ≡ length (lineText n)) × (r ≤ 99) ⌝ }
-{
-    let a = decimal::width(n[0]) + decimal::width(n[1]) + decimal::width(n[2]);
-    let b = decimal::width(n[3]) + decimal::width(n[4]) + decimal::width(n[5]);
-    let c = decimal::width(n[6]) + decimal::width(n[7]) + decimal::width(n[8]);
-    a + b + c + 9
-}
-
 // How many bytes the first `count` lines have.
 fn width(lines: PageLines, count: usize) -> usize
-    requires { ⌜ count ≤ 16 ⌝ }
+    requires { ⌜ count ≤ pageCount ⌝ }
     ensures { λ r. ⌜ r ≡ length (linesText (take count lines)) ⌝ }
 {
     let mut sum: usize = 0;
     let mut i: usize = 0;
     while i < count {
         let line = lines[i];
-        sum += line_width(numbers_of(line));
+        sum += text::line_width(numbers_of(line));
         i += 1;
     }
     sum
@@ -67,7 +58,7 @@ fn lesser(a: usize, b: usize) -> usize
 pub fn page(out: &mut [u8], lines: PageLines, most: usize) -> Written
     ensures { λ r. ⌜ (writtenTold r ≡ written (pageText most lines) (now (out .entry))) × (now (out .exit) ≡ put (pageText most lines) (now (out .entry))) ⌝ }
 {
-    let count = lesser(most, 16);
+    let count = lesser(most, PAGE);
     if out.len() < width(lines, count) {
         return Written::Refused(Refusal::NoRoom);
     }

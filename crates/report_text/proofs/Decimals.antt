@@ -32,7 +32,7 @@ unfolding decimal decimalBy
 more-digits zero h = absurd (omega arith)
 more-digits (suc n) h = simp (le-ltb (suc n) 10 h) (ap (λ l. l ++ (digit (suc n % 10) ∷ [])) (enough n (suc n / 10) (suc n / 10) (omega arith) (omega arith)))
 
--- what holds of a digit alone, and of a text with one more digit where it holds of the text before, holds of every number's text
+-- what holds of a digit alone, and of a text with one more digit if it holds of the text before, holds of every number's text
 module _ (P : ℕ → List ℕ → Type 0) (one : (n : ℕ) → n < 10 → P n (digit n ∷ [])) (more : (n : ℕ) (tens : List ℕ) → 10 ≤ n → P (n / 10) tens → P n (tens ++ (digit (n % 10) ∷ []))) where
   by-turns : (turns n : ℕ) → n ≤ turns → P n (decimal n)
   by-turns zero n h = rw (one-digit n (omega arith)) (one n (omega arith))

@@ -12,7 +12,7 @@ use borrow.Rule.Slice.PartMut.{putMid}
 use Rattle.base.specs.Pick.{pick}
 use Rattle.base.specs.Writing.{wrote, refused, written, put}
 use Rattle.report_text.specs.Writing.{over}
-use Rattle.report_text.proofs.Parts.{rest-is, joined}
+use Rattle.report_text.proofs.Parts.{rest-is, over-after}
 
 module _ (text part : List ℕ) where
   pub no-room : length part < length text → (refused 12 0 ≡ written text part) × (part ≡ put text part)
@@ -76,4 +76,4 @@ module _ (head text part : List ℕ) (enough : length head ≤ length part) wher
   headed bytes left out e f g =
       let n = had-room text rest bytes e in
       with-room (head ++ text) part (simp length-append (omega (arith, n, rest-length))) (bytes + length head) out (simp length-append (omega (arith, n)))
-      (g ∙ over-head left ∙ ap (λ l. head ++ l) (f ∙ sym (with-room text rest (n .1) bytes (over text rest) (n .0) refl .1) ∙ ap (over text) (rest-is part (length head))) ∙ joined head text part)
+      (g ∙ over-head left ∙ ap (λ l. head ++ l) (f ∙ sym (with-room text rest (n .1) bytes (over text rest) (n .0) refl .1) ∙ ap (over text) (rest-is part (length head))) ∙ over-after head text part)

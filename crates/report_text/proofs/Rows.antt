@@ -1,7 +1,6 @@
 -- 01's example, byte by byte, and the ends of the range.
-use Prim.Native.Nat.{ℕ}
 use mathlib.Core.Path.{_≡_, refl}
-use mathlib.Core.List.{List, [], _∷_}
+use mathlib.Core.List.{[], _∷_}
 use Rattle.report_text.specs.Decimal.{decimalBy, decimal}
 use Rattle.report_text.specs.Text.{lineText, headedText, endText}
 

@@ -15,3 +15,7 @@ decimalBy (suc turns) n = let more = decimalBy turns (n / 10) ++ (digit (n % 10)
 
 unfoldable pub decimal : ℕ → List ℕ
 decimal n = decimalBy n n
+
+-- no number below 2^32 has more digits
+abbrev pub mostDigits : ℕ
+mostDigits = 10

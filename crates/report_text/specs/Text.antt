@@ -1,17 +1,25 @@
 -- 01, "Two logs, one program, one host": the lines that runlog prints.
-use Prim.Native.Nat.{ℕ}
+use Prim.Native.Nat.{ℕ, _+_, _*_}
 use mathlib.Core.List.{List, [], _∷_, _++_}
-use Rattle.report_text.specs.Decimal.{decimal}
+use Rattle.report_text.specs.Decimal.{decimal, mostDigits}
 
--- The byte after a number: 32, a space, where more numbers follow; 10, a newline, after the last.
-abbrev pub after : List ℕ → ℕ
-after [] = 10
-after (n ∷ more) = 32
+-- The byte after a number: 32, a space, if more numbers follow; 10, a newline, after the last.
+abbrev pub byteAfter : List ℕ → ℕ
+byteAfter [] = 10
+byteAfter (n ∷ more) = 32
 
 -- "each record gives: number, kind, answer (0 or refusal), phase, current, voltage, input limit, pulse, flags, in decimal, one space apart."
 unfoldable pub lineText : List ℕ → List ℕ
 lineText [] = []
-lineText (n ∷ more) = decimal n ++ (after more ∷ lineText more)
+lineText (n ∷ more) = decimal n ++ (byteAfter more ∷ lineText more)
+
+-- a record's line has so many numbers, and no line that is written has more
+abbrev pub lineCount : ℕ
+lineCount = 9
+
+-- the most bytes of such a line: each number's digits and the byte after them
+abbrev pub mostLine : ℕ
+mostLine = lineCount * (mostDigits + 1)
 
 -- a line that a word begins
 unfoldable pub headedText : List ℕ → List ℕ → List ℕ

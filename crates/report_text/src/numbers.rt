@@ -5,7 +5,7 @@ ghost use Prim.Native.Nat.{_+_, _≤_, _<_};
 ghost use lib.ListN.{length};
 ghost use Rattle.base.specs.Pick.{pick};
 ghost use Rattle.report_text.specs.Decimal.{decimal};
-ghost use Rattle.report_text.specs.Text.{lineText};
+ghost use Rattle.report_text.specs.Text.{lineText, lineCount, mostLine};
 ghost use Rattle.report_text.specs.Writing.{over};
 use crate::decimal;
 
@@ -28,8 +28,8 @@ fn put_one(out: &mut [u8], n: u32, next: u8) -> usize
 
 // How many bytes the line has.
 pub(crate) fn width(numbers: &[u32]) -> usize
-    requires { ⌜ length (now numbers) ≤ 9 ⌝ }
-    ensures { λ r. ⌜ r ≡ length (lineText (now (numbers .entry))) ⌝ }
+    requires { ⌜ length (now numbers) ≤ lineCount ⌝ }
+    ensures { λ r. ⌜ (r ≡ length (lineText (now (numbers .entry)))) × (r ≤ mostLine) ⌝ }
 {
     let mut total: usize = 0;
     let mut i: usize = 0;

@@ -3,7 +3,7 @@ ghost use mathlib.Core.Path.{_≡_};
 ghost use mathlib.Core.List.{[], _∷_};
 ghost use Prim.Native.Nat.{_≤_};
 ghost use lib.ListN.{length};
-ghost use Rattle.report_text.specs.Text.{lineText, headedText, endText};
+ghost use Rattle.report_text.specs.Text.{lineText, lineCount, mostLine, headedText, endText};
 ghost use Rattle.base.specs.Writing.{written, writtenTold, put};
 ghost use Rattle.report_text.specs.Writing.{over};
 use crate::numbers;
@@ -16,9 +16,9 @@ pub type LineNumbers = [u32; 9];
 // What the last line holds: records read, code, offset.
 pub type EndNumbers = [u32; 3];
 
-// A line of at most nine numbers.
+// A line of no more numbers than a record's has.
 fn whole(out: &mut [u8], numbers: &[u32]) -> Written
-    requires { ⌜ length (now numbers) ≤ 9 ⌝ }
+    requires { ⌜ length (now numbers) ≤ lineCount ⌝ }
     ensures { λ r. ⌜ (writtenTold r ≡ written (lineText (now (numbers .entry))) (now (out .entry))) × (now (out .exit) ≡ put (lineText (now (numbers .entry))) (now (out .entry))) ⌝ }
 {
     let bytes = numbers::width(numbers);
@@ -27,6 +27,13 @@ fn whole(out: &mut [u8], numbers: &[u32]) -> Written
     }
     numbers::put(out, numbers);
     Written::Count(bytes)
+}
+
+// How many bytes a record's line has.
+pub fn line_width(numbers: LineNumbers) -> usize
+    ensures { λ r. ⌜ (r ≡ length (lineText numbers)) × (r ≤ mostLine) ⌝ }
+{
+    numbers::width(&numbers)
 }
 
 // A record's line.
@@ -48,9 +55,9 @@ fn put_word(out: &mut [u8], word: &[u8])
     }
 }
 
-// A word, and a line of at most nine numbers in the rest of the part.
+// A word, and a line of no more numbers than a record's has in the rest of the part.
 fn headed(out: &mut [u8], word: &[u8], numbers: &[u32]) -> Written
-    requires { ⌜ length (now numbers) ≤ 9 ⌝ }
+    requires { ⌜ length (now numbers) ≤ lineCount ⌝ }
     ensures { λ r. ⌜ (writtenTold r ≡ written (headedText (now (word .entry)) (now (numbers .entry))) (now (out .entry))) × (now (out .exit) ≡ put (headedText (now (word .entry)) (now (numbers .entry))) (now (out .entry))) ⌝ }
 {
     let start = word.len();

@@ -1,36 +1,41 @@
 -- `width` meets its contract: what is summed and what is left come to the whole.
 use Prim.Native.Nat.{_-_, _+_, _*_, _≤_}
-use mathlib.Core.Path.{_≡_, refl, sym, ap, _∙_}
+use mathlib.Core.Path.{_≡_, ap, _∙_}
 use native.Mathlib.Omega.{arith}
 use borrow.Author.Needs.{needs}
-use lib.ListN.{length, length-append}
-use Rattle.report_pages.proofs.Writing.{left, left-more, left-none}
+use lib.ListN.{length}
+use Rattle.base.proofs.Pieces.{left, left-all, sum-more, sum-none}
+use Rattle.report_text.specs.Text.{lineText, mostLine}
+use Rattle.report_pages.specs.Text.{pageCount}
+use Rattle.report_pages.proofs.Writing.{lineOf, pieces, lines-joined, none}
 use Rattle.report_pages.proofs.width.Statement.{statement}
 use Rattle.report_pages.proofs.width.Tie as tie
 
 abbrev Inv-loop : tie.InvT-loop
-Inv-loop count lines sum₀ i₀ sum i = (sum + length (left lines count i) ≡ length (left lines count 0)) × (sum ≤ 99 * i) × (i ≤ count)
+Inv-loop count lines sum₀ i₀ sum i = (sum + length (left (pieces lines count) i) ≡ length (left (pieces lines count) 0)) × (sum ≤ mostLine * i) × (i ≤ count)
 
 abbrev μ-loop : tie.MeasureT-loop
 μ-loop count lines sum₀ i₀ sum i = count - i
 
+within : (c : tie.At-loop Inv-loop μ-loop) → c .before .args .count ≤ length (c .before .args .t1)
+within c =
+    let n : length (c .before .args .t1) ≡ pageCount = search needs in
+    omega arith
+
 loop-again : tie.Need-loop-again Inv-loop μ-loop
 loop-again c =
-    let l = c .before .before .before .before in
+    let t = c .before .before .before in
+    let l = t .before in
     let a = l .before .args in
-    let n : length (a .t1) ≡ 16 = search needs in
-    let m : length (left (a .t1) (a .count) (l .loop .i)) ≡ c .line-width .result + length (left (a .t1) (a .count) (l .loop .i + 1)) =
-    ap length (left-more (a .t1) (a .count) (l .loop .i) (c .before .before .before .loop-test .taken) (omega arith)) ∙ simp (length-append, c .line-width .ensures .0, c .before .numbers-of .ensures) in
-    (omega arith, omega arith, omega arith)
+    let long = c .line-width .ensures .0 ∙ ap (λ n. length (lineText n)) (c .before .numbers-of .ensures) in
+    omega (arith, sum-more lineOf (a .t1) (a .count) (within l) none (l .loop .i) (t .loop-test .taken), long)
 
 returns : tie.Need-returns Inv-loop μ-loop
-unfolding left
 returns c =
     let l = c .before in
     let a = l .before .args in
-    let n : length (a .t1) ≡ 16 = search needs in
-    let z = ap length (left-none (a .t1) (a .count) (l .loop .i) (c .loop-test .left) (omega arith)) in
-    omega arith
+    let whole = ap length (left-all (pieces (a .t1) (a .count)) ∙ lines-joined (a .t1) (a .count)) in
+    omega (arith, sum-none lineOf (a .t1) (a .count) (within l) (l .loop .i) (c .loop-test .left), whole)
 
 pub width-spec : {M : Type 1} → statement M
 width-spec =

@@ -2,7 +2,6 @@
 use Prim.Native.Nat.{ℕ, _<_}
 use native.Mathlib.Omega.{arith}
 use lib.ListN.{length-set}
-use mathlib.Core.Path.{_∙_}
 use borrow.Fn.Kinds.{In}
 use borrow.Fn.PlainCycle.{Measures, is, falls, and}
 use Rattle.report_text.proofs.Decimals.{one-long, one-longer, digit-put, last-put}

@@ -1,6 +1,6 @@
 -- `width`: the digits counted and those of the rest are always the number's and one more.
 use Prim.Native.Nat.{_+_}
-use mathlib.Core.Path.{_≡_, refl}
+use mathlib.Core.Path.{_≡_}
 use native.Mathlib.Omega.{arith}
 use lib.ListN.{length}
 use Rattle.report_text.specs.Decimal.{decimal}

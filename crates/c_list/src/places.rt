@@ -1,0 +1,20 @@
+// Where each part of a state starts in the list of its numbers, and how many numbers there are. `Places` says the same.
+pub(crate) const SETTINGS: usize = 10;
+
+pub(crate) const REGISTERS: usize = SETTINGS + 14;
+
+pub(crate) const LATCHES: usize = REGISTERS + 10;
+
+pub(crate) const CYCLE: usize = LATCHES + 5;
+
+pub(crate) const WATCHDOG: usize = CYCLE + 4;
+
+pub(crate) const SAMPLE: usize = WATCHDOG + 1;
+
+pub(crate) const PHASE: usize = SAMPLE + 6;
+
+pub(crate) const BAND: usize = PHASE + 1;
+
+pub(crate) const FLAGS: usize = BAND + 1;
+
+pub const COUNT: usize = FLAGS + 1;
