@@ -9,74 +9,82 @@ use Rattle.base.specs.Pick.{pick}
 use Rattle.state_parts.specs.declared.profile.Profile.{Profile}
 use Rattle.state_parts.specs.declared.sample.Sample.{Sample}
 use Rattle.state_parts.specs.declared.state.State.{State}
-use Rattle.state_fields.specs.Rows.{fields, fieldsAt, takenOf, resetByte}
+use Rattle.state_fields.specs.Rows.{digitOf, fields, fieldsAt, takenOf, resetByte, vchgOverride, cellOverride, cellPin, ichgOverride}
 use Rattle.state_registers.specs.Reads.{byteAt}
 use Rattle.state_registers.specs.Writes.{countTaken}
-use Rattle.state_fields.specs.Held.{withByte, storedAt, standsAt, fieldOf}
+use Rattle.state_fields.specs.Held.{withByte}
 use Rattle.state_registers.specs.Resets as registers
 use Rattle.step_event.specs.Clock.{clearedIf}
 use Rattle.laws_account.specs.History.{Run, _▸_}
 use Rattle.step_turns.specs.declared.later.Later.the-variants.{Write, Observe, Reset}
-use Rattle.laws_account.specs.Held.{expired, overridden, cellsOf, restored, byteOf}
+use Rattle.laws_account.specs.Held.{profileOf, expired, Pin, vchg, cell, ichg, overrideOf, overridden, cellsOf, byteOf}
 use Rattle.laws_account.specs.States.{registersAt}
 use Rattle.laws_account.proofs.Choices.{chosen-at}
 
--- the bits of 0x1B and 0x1C that a write takes as they are
+-- the highest of four digits
 top-digit : (a b c d : ℕ) → a < 2 → b < 2 → c < 8 → d < 8 → (a * 128 + (b * 64 + (c * 8 + (d * 1 + 0)))) / 128 % 2 ≡ a
 top-digit a b c d ha hb hc hd = omega arith
 
-top-bit : (taken : Bool) (held byte : ℕ) → takenOf taken 0x1B held byte / 128 % 2 ≡ byte / 128 % 2
+-- the bits of 0x1B and 0x1C that a write takes as they are
+override-taken : (p : Profile) (taken : Bool) (k : Pin) (held byte : ℕ) → digitOf (overrideOf k) (takenOf p taken (overrideOf k .address) held byte) ≡ digitOf (overrideOf k) byte
 unfolding takenOf fieldsAt fields
-top-bit true held byte = top-digit (byte / 128 % 2) (byte / 64 % 2) (held / 8 % 8) (byte / 1 % 8) (omega arith) (omega arith) (omega arith) (omega arith)
-top-bit false held byte = top-digit (byte / 128 % 2) (byte / 64 % 2) (held / 8 % 8) (held / 1 % 8) (omega arith) (omega arith) (omega arith) (omega arith)
-
-next-bit : (taken : Bool) (held byte : ℕ) → takenOf taken 0x1B held byte / 64 % 2 ≡ byte / 64 % 2
-unfolding takenOf fieldsAt fields
-next-bit true held byte = omega arith
-next-bit false held byte = omega arith
-
-third-bit : (taken : Bool) (held byte : ℕ) → takenOf taken 0x1C held byte / 8 % 2 ≡ byte / 8 % 2
-unfolding takenOf fieldsAt fields
-third-bit taken held byte = omega arith
+override-taken p true vchg held byte =
+    top-digit (byte / 128 % 2) (byte / 64 % 2) (held / 8 % 8) (byte / 1 % 8) (omega arith) (omega arith) (omega arith) (omega arith)
+override-taken p false vchg held byte =
+    top-digit (byte / 128 % 2) (byte / 64 % 2) (held / 8 % 8) (held / 1 % 8) (omega arith) (omega arith) (omega arith) (omega arith)
+override-taken p true cell held byte = omega arith
+override-taken p false cell held byte = omega arith
+override-taken p taken ichg held byte = omega arith
 
 -- a count that is taken is the written one
-new-count : (taken : Bool) (held byte cells : ℕ) → pick taken (takenOf taken 0x1B held byte % 8) cells ≡ pick taken (byte % 8) cells
+new-count : (p : Profile) (taken : Bool) (held byte cells : ℕ)
+    → pick taken (digitOf cellPin (takenOf p taken (cellPin .address) held byte)) cells ≡ pick taken (digitOf cellPin byte) cells
 unfolding takenOf fieldsAt fields
-new-count true held byte cells = omega arith
-new-count false held byte cells = refl
+new-count p true held byte cells = omega arith
+new-count p false held byte cells = refl
 
 module _ (s : State) (byte : ℕ) where
+  abbrev p : Profile
+  p = s .profile
+
   -- the byte that a write leaves at an address
   abbrev left : ℕ → ℕ
-  left address = takenOf (countTaken (s .registers) address byte) address (byteAt s address) byte
+  left address = takenOf (s .profile) (countTaken (s .registers) address byte) address (byteAt s address) byte
 
   abbrev taken : ℕ → Bool
   taken address = countTaken (s .registers) address byte
 
-  count-at : (address : ℕ) → pick (taken address) (left address % 8) (s .registers .cells) ≡ pick (taken address) (byte % 8) (s .registers .cells)
+  abbrev counted : ℕ → ℕ
+  counted address = digitOf cellPin (left address)
+
+  count-at : (address : ℕ) → pick (taken address) (counted address) (s .registers .cells) ≡ pick (taken address) (digitOf cellPin byte) (s .registers .cells)
   count-at address = go (eqb address 0x1B) refl
     where
-      go : (b : Bool) → eqb address 0x1B ≡ b → pick (taken address) (left address % 8) (s .registers .cells) ≡ pick (taken address) (byte % 8) (s .registers .cells)
-      go true h = rw (eqb-true address 0x1B h) (new-count (taken 0x1B) (byteAt s 0x1B) byte (s .registers .cells))
+      go : (b : Bool) → eqb address 0x1B ≡ b → pick (taken address) (counted address) (s .registers .cells) ≡ pick (taken address) (digitOf cellPin byte) (s .registers .cells)
+      go true h = rw (eqb-true address 0x1B h) (new-count p (taken 0x1B) (byteAt s 0x1B) byte (s .registers .cells))
       go false h = rw h
 
-  bit-at : (at weight : ℕ) (old : Bool) → left at / weight % 2 ≡ byte / weight % 2 → (address : ℕ)
-      → pick (eqb address at) (eqb (left address / weight % 2) 1) old ≡ pick (eqb address at) (eqb (byte / weight % 2) 1) old
-  bit-at at weight old h address = chosen-at at address (λ a. eqb (left a / weight % 2) 1) old ∙ ap (λ n. pick (eqb address at) (eqb n 1) old) h
+  bit-at : (k : Pin) (old : Bool) (address : ℕ)
+      → pick (eqb address (overrideOf k .address)) (eqb (digitOf (overrideOf k) (left address)) 1) old
+      ≡ pick (eqb address (overrideOf k .address)) (eqb (digitOf (overrideOf k) byte) 1) old
+  bit-at k old address =
+      let at = overrideOf k .address in
+      chosen-at at address (λ a. eqb (digitOf (overrideOf k) (left a)) 1) old
+      ∙ ap (λ n. pick (eqb address at) (eqb n 1) old) (override-taken p (taken at) k (byteAt s at) byte)
 
-  pub placed-is : (address : ℕ) → withByte storedAt standsAt fieldOf (countTaken (s .registers) address byte) (s .registers) address (left address) ≡ record {
-    r15 = pick (eqb address 0x15) (takenOf false 0x15 (s .registers .r15) byte) (s .registers .r15);
-    r16 = pick (eqb address 0x16) (takenOf false 0x16 (s .registers .r16) byte) (s .registers .r16);
-    r17 = pick (eqb address 0x17) (takenOf false 0x17 (s .registers .r17) byte) (s .registers .r17);
-    r18 = pick (eqb address 0x18) (takenOf false 0x18 (s .registers .r18) byte) (s .registers .r18);
-    r19 = pick (eqb address 0x19) (takenOf false 0x19 (s .registers .r19) byte) (s .registers .r19);
-    r1a = pick (eqb address 0x1A) (takenOf false 0x1A (s .registers .r1a) byte) (s .registers .r1a);
-    cells = pick (countTaken (s .registers) address byte) (byte % 8) (s .registers .cells);
-    vchgoverride = pick (eqb address 0x1B) (eqb (byte / 128 % 2) 1) (s .registers .vchgoverride);
-    celloverride = pick (eqb address 0x1B) (eqb (byte / 64 % 2) 1) (s .registers .celloverride);
-    ichgoverride = pick (eqb address 0x1C) (eqb (byte / 8 % 2) 1) (s .registers .ichgoverride);
+  pub placed-is : (address : ℕ) → withByte (countTaken (s .registers) address byte) (s .registers) address (left address) ≡ record {
+    r15 = pick (eqb address 0x15) (takenOf (s .profile) false 0x15 (s .registers .r15) byte) (s .registers .r15);
+    r16 = pick (eqb address 0x16) (takenOf (s .profile) false 0x16 (s .registers .r16) byte) (s .registers .r16);
+    r17 = pick (eqb address 0x17) (takenOf (s .profile) false 0x17 (s .registers .r17) byte) (s .registers .r17);
+    r18 = pick (eqb address 0x18) (takenOf (s .profile) false 0x18 (s .registers .r18) byte) (s .registers .r18);
+    r19 = pick (eqb address 0x19) (takenOf (s .profile) false 0x19 (s .registers .r19) byte) (s .registers .r19);
+    r1a = pick (eqb address 0x1A) (takenOf (s .profile) false 0x1A (s .registers .r1a) byte) (s .registers .r1a);
+    cells = pick (countTaken (s .registers) address byte) (digitOf cellPin byte) (s .registers .cells);
+    vchgoverride = pick (eqb address 0x1B) (eqb (digitOf vchgOverride byte) 1) (s .registers .vchgoverride);
+    celloverride = pick (eqb address 0x1B) (eqb (digitOf cellOverride byte) 1) (s .registers .celloverride);
+    ichgoverride = pick (eqb address 0x1C) (eqb (digitOf ichgOverride byte) 1) (s .registers .ichgoverride);
   }
-  unfolding withByte storedAt standsAt fieldOf byteAt
+  unfolding withByte byteAt
   placed-is address = λ i. record {
     r15 = chosen-at 0x15 address left (s .registers .r15) i;
     r16 = chosen-at 0x16 address left (s .registers .r16) i;
@@ -85,20 +93,20 @@ module _ (s : State) (byte : ℕ) where
     r19 = chosen-at 0x19 address left (s .registers .r19) i;
     r1a = chosen-at 0x1A address left (s .registers .r1a) i;
     cells = count-at address i;
-    vchgoverride = bit-at 0x1B 128 (s .registers .vchgoverride) (top-bit _ _ byte) address i;
-    celloverride = bit-at 0x1B 64 (s .registers .celloverride) (next-bit _ _ byte) address i;
-    ichgoverride = bit-at 0x1C 8 (s .registers .ichgoverride) (third-bit _ _ byte) address i;
+    vchgoverride = bit-at vchg (s .registers .vchgoverride) address i;
+    celloverride = bit-at cell (s .registers .celloverride) address i;
+    ichgoverride = bit-at ichg (s .registers .ichgoverride) address i;
   }
 
-pub written-bytes : (r : Run) (s : State) → s .registers ≡ registersAt r → (address byte : ℕ)
-    → withByte storedAt standsAt fieldOf (countTaken (s .registers) address byte) (s .registers) address (left s byte address) ≡ registersAt (r ▸ Write address byte)
+pub written-bytes : (r : Run) (s : State) → s .profile ≡ profileOf r → s .registers ≡ registersAt r → (address byte : ℕ)
+    → withByte (countTaken (s .registers) address byte) (s .registers) address (left s byte address) ≡ registersAt (r ▸ Write address byte)
 unfolding registersAt byteOf cellsOf overridden
-written-bytes r s h address byte = placed-is s byte address ∙ rw h refl
+written-bytes r s e h address byte = placed-is s byte address ∙ rw (e, h) refl
 
 pub cleared-bytes : (r : Run) (x : Sample) → clearedIf (not (expired r) && expired (r ▸ Observe x)) (registersAt r) ≡ registersAt (r ▸ Observe x)
 unfolding clearedIf registersAt byteOf cellsOf overridden
 cleared-bytes r x = refl
 
-pub reset-bytes : (r : Run) (p : Profile) → registers.restored p (registersAt r) ≡ registersAt (r ▸ Reset)
-unfolding registers.restored registersAt byteOf cellsOf overridden resetByte fieldsAt fields
-reset-bytes r p = refl
+pub reset-bytes : (r : Run) → registers.resetRegisters (profileOf r) (registersAt r) ≡ registersAt (r ▸ Reset)
+unfolding registers.resetRegisters registersAt byteOf cellsOf overridden resetByte fieldsAt fields
+reset-bytes r = refl

@@ -6,7 +6,6 @@ use mathlib.Core.Bool.{Bool, true, false, not, _&&_}
 use lib.Dec.{eqb}
 use Rattle.base.specs.Pick.{pick}
 use Rattle.base.specs.Stamps.{elapsedOf}
-use Rattle.state_parts.specs.Numbers.{phaseNumber}
 use Rattle.state_parts.specs.declared.cycle.Cycle.{Cycle}
 use Rattle.state_parts.specs.declared.registers.Registers.{Registers}
 use Rattle.state_parts.specs.declared.sample.Sample.{Sample}
@@ -14,8 +13,9 @@ use Rattle.state_parts.specs.declared.settings.Settings.{Settings}
 use Rattle.state_parts.specs.declared.state.State.{State}
 use Rattle.state_parts.specs.declared.watchdog.Watchdog.{Watchdog}
 use Rattle.settle_permission.specs.Bits.{regulatedOf}
+use Rattle.state_fields.specs.Rows.{digitOf, cellPin}
 use Rattle.state_settings.specs.Numbered.{storeOf}
-use Rattle.step_flags.specs.Expiry.{expiredOf}
+use Rattle.step_flags.specs.Expiry.{expiredOf, expiresOf}
 use Rattle.state_registers.specs.Writes.{writtenTo}
 use Rattle.state_registers.specs.Resets.{resetOf}
 use Rattle.step_event.specs.Clock as clock
@@ -75,7 +75,7 @@ found r e = changed r (givenAt r e) (registersAt (r ▸ e)) (cycleFound (r ▸ e
 
 -- a stage that the phase counts in and that has a limit
 abbrev counted : Stage → Run → Bool
-counted s r = heldIn s (phaseNumber (phaseAt r)) && not (eqb (limitOf s (profileOf r)) 0)
+counted s r = heldIn s (phaseAt r) && not (eqb (limitOf s (profileOf r)) 0)
 
 -- an event that brings no time gives no stage any
 no-units : (regulated : Bool) → _≡_ {A = ℕ} (pick regulated 0 (0 * 2)) 0
@@ -119,9 +119,9 @@ cycle-timed r x = λ i. record {
 }
 
 expires-is : (r : Run) (x : Sample)
-    → (not (expiredOf (profileOf r) (watchdogAt r)) && expiredOf (profileOf r) (countedOf (profileOf r) (watchdogAt r) (elapsedOf (sampleOf r .stamp) (x .stamp))))
+    → expiresOf (profileOf r) (watchdogAt r) (countedOf (profileOf r) (watchdogAt r) (elapsedOf (sampleOf r .stamp) (x .stamp)))
     ≡ (not (expired r) && expired (r ▸ Observe x))
-unfolding profileOf
+unfolding profileOf expiresOf
 expires-is r x = λ i. not (expired-is r i) && (ap (expiredOf (profileOf r)) (counted-is r x) ∙ expired-is (r ▸ Observe x)) i
 
 pub written-is : (r : Run) (e : Later) → writtenBy (stateOf r) e ≡ found r e
@@ -129,7 +129,7 @@ unfolding found stateBy settingsAt registersAt byteOf cellsOf overridden sampleO
 written-is r (Set n v) =
     λ i. changed r (store-is (λ k. settingOf k r) n v i) (registersAt r) (cycle-kept r (Set n v) refl refl i) (waits r (Set n v) refl refl i) (sampleOf r)
 written-is r (Write a b) =
-    λ i. changed r (count-is (λ k. settingOf k r) (profileOf r) (b % 8) (takes r (cellsOf r) a b) i) (written-bytes r (stateOf r) refl a b i)
+    λ i. changed r (count-is (λ k. settingOf k r) (profileOf r) (digitOf cellPin b) (takes r (cellsOf r) a b) i) (written-bytes r (stateOf r) refl refl a b i)
     (cycle-kept r (Write a b) refl refl i) (waits r (Write a b) refl refl i) (sampleOf r)
 written-is r TakeFlags =
     λ i. changed r (settingsAt r) (registersAt r) (cycle-kept r TakeFlags refl refl i) (waits r TakeFlags refl refl i) (sampleOf r)
@@ -138,4 +138,4 @@ written-is r (Observe x) =
 written-is r Service =
     λ i. changed r (settingsAt r) (registersAt r) (cycle-kept r Service refl refl i) (served-is r Service refl i) (sampleOf r)
 written-is r Reset =
-    λ i. changed r (start-is (profileOf r) (cellsOf r) i) (reset-bytes r (profileOf r) i) (cycleFound (r ▸ Reset)) (served-is r Reset refl i) (sampleOf r)
+    λ i. changed r (start-is (profileOf r) (cellsOf r) i) (reset-bytes r i) (cycleFound (r ▸ Reset)) (served-is r Reset refl i) (sampleOf r)

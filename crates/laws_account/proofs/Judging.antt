@@ -13,7 +13,10 @@ use Rattle.state_parts.specs.declared.phase.Phase.the-variants.{Idle, Trickle, 
 use Rattle.state_parts.specs.declared.state.State.{State}
 use Rattle.settle_bands.specs.Thresholds.{bandOf}
 use Rattle.settle_bands.specs.Effect as effect
-use Rattle.settle_bands.specs.Effect.{suspendsOf, cutOf}
+use Rattle.settle_bands.specs.Effect.{suspendsOf}
+use Rattle.state_fields.specs.Held.{fieldOf}
+use Rattle.state_fields.specs.Rows.{jeitaIsetc, jeitaVset}
+use Rattle.laws_account.proofs.Sharing.{cut-is}
 use Rattle.settle_levels.specs.Clamps.{faultOf, packClampOf, baseOf}
 use Rattle.settle_levels.specs.Comparators.{shortOf, lowOf, packOverOf, latchesOf}
 use Rattle.settle_levels.specs.Voltage.{chargeVoltageOf, taperOf, belowRecharge}
@@ -48,7 +51,7 @@ taper-four Suspended = refl
 taper-four Fault = refl
 
 -- what a band does, by the registers of a run
-suspends-in : (b : Band) (m : Run) → effect.suspendedIn b (eqb (effect.isetcOf (registersAt m)) 0) (eqb (effect.vsetOf (registersAt m)) 0) ≡ suspendedIn b m
+suspends-in : (b : Band) (m : Run) → effect.suspendedIn b (eqb (fieldOf jeitaIsetc (registersAt m)) 0) (eqb (fieldOf jeitaVset (registersAt m)) 0) ≡ suspendedIn b m
 unfolding registersAt
 suspends-in Normal m = refl
 suspends-in Cold m = refl
@@ -56,21 +59,13 @@ suspends-in Cool m = refl
 suspends-in Warm m = refl
 suspends-in Hot m = refl
 
-pub cut-in : (b : Band) (m : Run) → cutOf (registersAt m) b ≡ cutIn b m
-unfolding registersAt cutOf
-cut-in Normal m = refl
-cut-in Cold m = refl
-cut-in Cool m = refl
-cut-in Warm m = refl
-cut-in Hot m = refl
-
 pub base-is : (m : Run) → baseOf (profileOf m) (settingsAt m) (registersAt m) ≡ baseAt m
 unfolding baseOf packClampOf baseAt packClamp settingsAt registersAt
 base-is m = refl
 
 pub voltage-is : (m : Run) → chargeVoltageOf (profileOf m) (settingsAt m) (registersAt m) (bandAt m) ≡ chargeVoltage m
 unfolding chargeVoltageOf chargeVoltage registersAt
-voltage-is m = λ i. lessOf (base-is m i) (inPack (cut-in (bandAt m) m i) (cellsOf m))
+voltage-is m = λ i. lessOf (base-is m i) (inPack (cut-is (bandAt m) m i) (cellsOf m))
 
 pub fault-is : (m : Run) → faultOf (profileOf m) (registersAt m) ≡ pinFault m
 unfolding faultOf registersAt pinFault
@@ -106,13 +101,13 @@ module _ (r : Run) (e : Later) where
   latches-are = λ i. record {
     inputok = held-since (leb 2900 (sampleOf m .input)) (leb 2350 (sampleOf m .input)) (inputOk r) i;
     inputover = held-since (leb 36300 (sampleOf m .input)) (leb 34500 (sampleOf m .input)) (inputOver r) i;
-    short = forced-since (pinFault m) (below (vbat m) (inPack (shortReturnsAt (cellsOf m)) (cellsOf m))) (below (vbat m) (inPack (shortEndsAt (cellsOf m)) (cellsOf m))) (short r) i;
+    short = forced-since (pinFault m) (below (vbat m) (inPack (shortReturnsAt (profileOf m) (cellsOf m)) (cellsOf m))) (below (vbat m) (inPack (shortEndsAt (profileOf m) (cellsOf m)) (cellsOf m))) (short r) i;
     low = forced-since (pinFault m) (belowShare (vbat m) (baseAt m) (lowEnds m - 50)) (belowShare (vbat m) (baseAt m) (lowEnds m)) (low r) i;
     packover = barred-since (pinFault m) (not (belowShare (vbat m) (baseAt m) 1040)) (not (belowShare (vbat m) (baseAt m) 1020)) (packOver r) i;
   }
 
-  pub band-is : bandOf (registersAt (r ▸ e)) (sampleOf (r ▸ e) .ts) ≡ bandAt (r ▸ e)
-  unfolding bandOf registersAt bandAt
+  pub band-is : bandOf (profileOf r) (registersAt (r ▸ e)) (sampleOf (r ▸ e) .ts) ≡ bandAt (r ▸ e)
+  unfolding bandOf registersAt bandAt profileOf
   band-is = refl
 
   -- the tests after the event, as the account has them
@@ -139,13 +134,13 @@ module _ (r : Run) (e : Later) where
   unfolding testsOf reachedOf fault limitFound latchesAt profileOf
   bad-is = refl
 
-  suspends-is : suspendsOf (registersAt m) (bandAt m) ≡ suspended m
+  suspends-is : suspendsOf (profileOf m) (registersAt m) (bandAt m) ≡ suspended m
   unfolding suspendsOf suspended
   suspends-is = suspends-in (bandAt m) m
 
-  recharge-is : belowRecharge (settingsAt m) (baseOf (profileOf m) (settingsAt m) (registersAt m)) (sampleOf m) ≡ rechargeDue m
+  recharge-is : belowRecharge (profileOf m) (settingsAt m) (baseOf (profileOf m) (settingsAt m) (registersAt m)) (sampleOf m) ≡ rechargeDue m
   unfolding belowRecharge rechargeDue vbat settingsAt
-  recharge-is = ap (λ b. belowRecharge (settingsAt m) b (sampleOf m)) (base-is m)
+  recharge-is = ap (λ b. belowRecharge (profileOf m) (settingsAt m) b (sampleOf m)) (base-is m)
 
   taper-is : taperOf (chargeVoltageOf (profileOf m) (settingsAt m) (registersAt m) (bandAt m)) (sampleOf m) ≡ tapering m
   unfolding taperOf tapering vbat

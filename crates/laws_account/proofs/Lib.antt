@@ -6,7 +6,8 @@ mod Dogs
 mod Values
 mod Bytes
 mod Found
-mod Judging
+pub mod Sharing
+pub mod Judging
 pub mod Settling
 mod Raising
 mod Starting
@@ -14,4 +15,3 @@ pub mod Powering
 mod Stepping
 pub mod Agreeing
 pub mod Logging
-pub mod Sharing

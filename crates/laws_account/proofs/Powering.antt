@@ -91,7 +91,7 @@ module _ (p : Profile) where
 
   module _ (ok : profileOk p ≡ true) where
     abbrev shortReturns : Bool
-    shortReturns = below (vbat on) (inPack (shortReturnsAt (p .cell)) (p .cell))
+    shortReturns = below (vbat on) (inPack (shortReturnsAt p (p .cell)) (p .cell))
 
     short-start : (fault stays : Bool) → pinFault on ≡ fault → (fault || (shortReturns || (true && stays))) ≡ true
     short-start true stays h = refl
@@ -110,7 +110,7 @@ module _ (p : Profile) where
     latches-start = λ i. record {
       inputok = false;
       inputover = false;
-      short = short-start (pinFault on) (below (vbat on) (inPack (shortEndsAt (p .cell)) (p .cell))) refl i;
+      short = short-start (pinFault on) (below (vbat on) (inPack (shortEndsAt p (p .cell)) (p .cell))) refl i;
       low = low-start (pinFault on) (belowShare (vbat on) (baseAt on) (lowEnds on)) (lowEnds on - 50) (low-pos p) refl i;
       packover = over-start (pinFault on) (not (belowShare (vbat on) (baseAt on) 1020)) refl i;
     }
@@ -144,10 +144,10 @@ module _ (p : Profile) where
     abbrev settledFrom : State → State
     settledFrom f =
         let k = latchesOf (f .profile) (f .settings) (f .registers) (f .sample) (f .latches) in
-        let b = bandOf (f .registers) (f .sample .ts) in
+        let b = bandOf (f .profile) (f .registers) (f .sample .ts) in
         settledOf f k b (testsOf f k b false)
 
-    band-start : bandOf (registersAt on) 55000 ≡ bandAt on
+    band-start : bandOf p (registersAt on) 55000 ≡ bandAt on
     unfolding bandOf registersAt bandAt sampleOf
     band-start = refl
 

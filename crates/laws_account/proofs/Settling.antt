@@ -97,7 +97,7 @@ module _ (r : Run) (e : Later) where
   abbrev settledFrom : State → State
   settledFrom f =
       let k = latchesOf (f .profile) (f .settings) (f .registers) (f .sample) (f .latches) in
-      let b = bandOf (f .registers) (f .sample .ts) in
+      let b = bandOf (f .profile) (f .registers) (f .sample .ts) in
       settledOf f k b (testsOf f k b (wasObserved (r ▸ e)))
 
   pub settle-is : settleOf (found r e) (wasObserved (r ▸ e)) ≡ flaggedWith (r ▸ e) (flagsAt phaseAt r)

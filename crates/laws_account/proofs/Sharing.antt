@@ -4,10 +4,11 @@ use Rattle.state_parts.specs.declared.band.Band.{Band}
 use Rattle.state_parts.specs.declared.band.Band.the-variants.{Normal, Cold, Cool, Warm, Hot}
 use Rattle.settle_bands.specs.Effect.{shareOf, cutOf}
 use Rattle.laws_account.specs.History.{Run}
+use Rattle.laws_account.specs.Held.{profileOf}
 use Rattle.laws_account.specs.Judged.{shareIn, cutIn}
 use Rattle.laws_account.specs.States.{registersAt}
 
-pub share-is : (b : Band) (r : Run) → shareOf (registersAt r) b ≡ shareIn b r
+pub share-is : (b : Band) (r : Run) → shareOf (profileOf r) (registersAt r) b ≡ shareIn b r
 unfolding shareOf registersAt
 share-is Normal r = refl
 share-is Cold r = refl
@@ -15,7 +16,7 @@ share-is Cool r = refl
 share-is Warm r = refl
 share-is Hot r = refl
 
-pub cut-is : (b : Band) (r : Run) → cutOf (registersAt r) b ≡ cutIn b r
+pub cut-is : (b : Band) (r : Run) → cutOf (profileOf r) (registersAt r) b ≡ cutIn b r
 unfolding cutOf registersAt
 cut-is Normal r = refl
 cut-is Cold r = refl

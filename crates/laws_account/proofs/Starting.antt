@@ -74,10 +74,10 @@ module _ (p : Profile) (ok : profileOk p ≡ true) (sound : pinFault (powered p)
       (pos-pick (eqb (p .vchg) 0 || eqb (p .cell) 0) (packOf 2400) (inPack (vchgOf p) (p .cell)) (omega arith) (pos-pack (vchgOf p) (p .cell) vchg-pos cells-pos))
       (pos-pack (vchgOf p) (p .cell) vchg-pos cells-pos)
 
-  pub below-short : below (vbat (powered p)) (inPack (shortReturnsAt (p .cell)) (p .cell)) ≡ true
+  pub below-short : below (vbat (powered p)) (inPack (shortReturnsAt p (p .cell)) (p .cell)) ≡ true
   unfolding vbat sampleOf
   below-short =
-      lt-ltb 0 _ (pos-pack (shortReturnsAt (p .cell)) (p .cell) (pos-cell (leb (p .cell) 2) (record { 0 = 1850 }) (record { 0 = 2000 }) (omega arith) (omega arith)) cells-pos)
+      lt-ltb 0 _ (pos-pack (shortReturnsAt p (p .cell)) (p .cell) (pos-cell (leb (p .cell) 2) (record { 0 = 1850 }) (record { 0 = 2000 }) (omega arith) (omega arith)) cells-pos)
 
   pub below-any : (share : ℕ) → 0 < share → belowShare (vbat (powered p)) (baseAt (powered p)) share ≡ true
   unfolding belowShare vbat sampleOf

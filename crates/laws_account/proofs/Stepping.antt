@@ -27,7 +27,7 @@ use Rattle.step_event.specs.Steps.{observeOf, followedOf, movedOf, changeOf, se
 use Rattle.laws_account.specs.History.{Run, powered, _▸_}
 use Rattle.step_turns.specs.declared.later.Later.{Later}
 use Rattle.step_turns.specs.declared.later.Later.the-variants.{Set, Write, TakeFlags, Observe, Service, Reset}
-use Rattle.laws_account.specs.Held.{elapsed, wasObserved}
+use Rattle.laws_account.specs.Held.{profileOf, elapsed, wasObserved}
 use Rattle.laws_account.specs.Cycles.{phaseAt}
 use Rattle.laws_account.specs.Flagged.{wasTaken, handedBack, pulsed}
 use Rattle.laws_account.specs.Refused.{refusalIn, Past, some}
@@ -83,9 +83,9 @@ three-tests false false false w r e h = h
 
 pub followed-is : (r : Run) (e : Later) → closed r (followedOf (stateOf r) e) ≡ nextAt (refusalIn r e) r e
 unfolding followedOf refusalIn setOf writtenOf writeOf observeOf wasObserved wasTaken elapsed stateBy
-followed-is r (Set n v) = two-tests (not (knownSetting n)) (not (mayHold n v)) 8 9 _ r (Set n v) refl refl (plain-is r (Set n v) refl refl)
+followed-is r (Set n v) = two-tests (not (knownSetting (profileOf r) n)) (not (mayHold (profileOf r) n v)) 8 9 _ r (Set n v) refl refl (plain-is r (Set n v) refl refl)
 followed-is r (Write a b) =
-    three-tests (not (leb 0x15 a && leb a 0x1C)) (not (leb b 255)) (eqb a 0x16 && not (frequencyOk b)) _ r (Write a b) (plain-is r (Write a b) refl refl)
+    three-tests (not (leb 0x15 a && leb a 0x1C)) (not (leb b 255)) (eqb a 0x16 && not (frequencyOk (profileOf r) b)) _ r (Write a b) (plain-is r (Write a b) refl refl)
 followed-is r TakeFlags = taken-next r
 followed-is r (Observe x) = one-test (ltb 3600000 (elapsed (r ▸ Observe x))) 7 _ r (Observe x) refl (observed-is r x)
 followed-is r Service = plain-is r Service refl refl

@@ -7,6 +7,7 @@ use lib.ListN.{getD}
 use lib.Dec.{leb, ltb, eqb}
 use Rattle.base.specs.Pick.{pick}
 use Rattle.state_parts.specs.Numbers.{phaseNumber}
+use Rattle.state_parts.specs.Stages.{inTrickle, inPrecharge, inFast, limitUnits}
 use Rattle.state_parts.specs.declared.phase.Phase.{Phase}
 use Rattle.state_parts.specs.declared.phase.Phase.the-variants.{Idle, Trickle, Precharge, Fast, Taper, Done, Suspended, Fault}
 use Rattle.state_parts.specs.declared.profile.Profile.{Profile}
@@ -25,10 +26,10 @@ limitOf trickle p = p .trickle
 limitOf precharge p = p .precharge
 limitOf fast p = p .fast
 
-abbrev pub heldIn : Stage → ℕ → Bool
-heldIn trickle phase = eqb phase 1
-heldIn precharge phase = eqb phase 2
-heldIn fast phase = eqb phase 3 || eqb phase 4
+abbrev pub heldIn : Stage → Phase → Bool
+heldIn trickle = inTrickle
+heldIn precharge = inPrecharge
+heldIn fast = inFast
 
 -- "two units per ms, one while the old sample shows any regulation"
 unfoldable pub unitsOf : Sample → ℕ → ℕ
@@ -36,7 +37,7 @@ unitsOf old ms = pick (regulatedOf old) ms (ms * 2)
 
 -- "A limit of s seconds is reached at 2,000s units; a limit 0 counts nothing."
 abbrev pub reaches : ℕ → ℕ → Bool
-reaches limit units = not (eqb limit 0) && leb (limit * 2000) units
+reaches limit units = not (eqb limit 0) && leb (limitUnits limit) units
 
 -- From here on P is the phase at each moment. The rule for the phase after r ▸ e, `phaseBy`, reads P at r and before alone.
 module _ (P : Run → Phase) where
@@ -46,7 +47,7 @@ module _ (P : Run → Phase) where
   -- "1. Time since the last stamp goes to the stage held before it": what the last event gave a stage
   unfoldable pub gave : Stage → Run → ℕ
   gave s (powered p) = 0
-  gave s (r ▸ e) = pick (heldIn s (numberAt r) && not (eqb (limitOf s (profileOf r)) 0)) (unitsOf (sampleOf r) (elapsed (r ▸ e))) 0
+  gave s (r ▸ e) = pick (heldIn s (P r) && not (eqb (limitOf s (profileOf r)) 0)) (unitsOf (sampleOf r) (elapsed (r ▸ e))) 0
 
   -- done: phase 5 was reported, and since then neither a reset nor a phase but 5, 6 and 7, in which it is kept
   unfoldable pub isDone : Run → Bool

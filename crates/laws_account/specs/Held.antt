@@ -1,5 +1,5 @@
 -- The account, what a run's events leave held: profile, sample, time, the watchdog, overrides, CELL_PIN and register bytes.
-use Prim.Native.Nat.{ℕ, _+_, _*_, _/_, _%_}
+use Prim.Native.Nat.{ℕ, _*_}
 use mathlib.Core.Bool.{Bool, true, false, not, _&&_}
 use lib.Dec.{leb, eqb}
 use Rattle.base.specs.Pick.{pick}
@@ -7,7 +7,7 @@ use Rattle.base.specs.Stamps.{elapsedOf}
 use Rattle.state_parts.specs.declared.profile.Profile.{Profile}
 use Rattle.state_parts.specs.declared.sample.Sample.{Sample}
 use Rattle.state_start.specs.Values.{startSample}
-use Rattle.state_fields.specs.Rows.{takenOf, resetByte}
+use Rattle.state_fields.specs.Rows.{Field, digitOf, keptFrom, takenOf, resetByte, enBypassLlExit, vchgOverride, cellOverride, cellPin, ichgOverride}
 use Rattle.laws_account.specs.History.{Run, powered, _▸_, sumAfter}
 use Rattle.step_turns.specs.declared.later.Later.the-variants.{Set, Write, TakeFlags, Observe, Service, Reset}
 
@@ -71,25 +71,20 @@ unserved = sumAfter wasServed elapsed
 unfoldable pub expired : Run → Bool
 expired r = not (eqb (profileOf r .watchdog) 0) && leb (profileOf r .watchdog * 1000) (unserved r)
 
--- the three overrides. 000, tables 6-34 and 6-35: 0x1B bit 7 is VCHG's, 0x1B bit 6 CELL's, 0x1C bit 3 ICHG's
+-- the three overrides, by their fields
 pub data Pin : Type 0 where
   vchg cell ichg : Pin
 
-abbrev pub addressOf : Pin → ℕ
-addressOf vchg = 0x1B
-addressOf cell = 0x1B
-addressOf ichg = 0x1C
-
-abbrev pub weightOf : Pin → ℕ
-weightOf vchg = 128
-weightOf cell = 64
-weightOf ichg = 8
+abbrev pub overrideOf : Pin → Field
+overrideOf vchg = vchgOverride
+overrideOf cell = cellOverride
+overrideOf ichg = ichgOverride
 
 -- "0x1B and 0x1C start with pin codes, overrides 0." "reaching its period expires it: all three overrides clear". "Register reset .. clears overrides"
 unfoldable pub overridden : Pin → Run → Bool
 overridden k (powered p) = false
 overridden k (r ▸ Set number value) = overridden k r
-overridden k (r ▸ Write address byte) = pick (eqb address (addressOf k)) (eqb (byte / weightOf k % 2) 1) (overridden k r)
+overridden k (r ▸ Write address byte) = pick (eqb address (overrideOf k .address)) (eqb (digitOf (overrideOf k) byte) 1) (overridden k r)
 overridden k (r ▸ TakeFlags) = overridden k r
 overridden k (r ▸ Observe x) = overridden k r && not (not (expired r) && expired (r ▸ Observe x))
 overridden k (r ▸ Service) = overridden k r
@@ -97,27 +92,31 @@ overridden k (r ▸ Reset) = false
 
 -- "CELL_PIN takes a written count only if CELL_PIN_OVERRIDE stood before the write, the count is 1-7 and it differs."; `cells` is the count held before
 abbrev pub takes : Run → ℕ → ℕ → ℕ → Bool
-takes r cells address byte = eqb address 0x1B && overridden cell r && not (eqb (byte % 8) 0) && not (eqb (byte % 8) cells)
+takes r cells address byte = eqb address (cellPin .address) && overridden cell r && not (eqb (digitOf cellPin byte) 0) && not (eqb (digitOf cellPin byte) cells)
 
 -- the CELL_PIN held: a register reset "leaves pin codes"
 unfoldable pub cellsOf : Run → ℕ
 cellsOf (powered p) = p .cell
 cellsOf (r ▸ Set number value) = cellsOf r
-cellsOf (r ▸ Write address byte) = pick (takes r (cellsOf r) address byte) (byte % 8) (cellsOf r)
+cellsOf (r ▸ Write address byte) = pick (takes r (cellsOf r) address byte) (digitOf cellPin byte) (cellsOf r)
 cellsOf (r ▸ TakeFlags) = cellsOf r
 cellsOf (r ▸ Observe x) = cellsOf r
 cellsOf (r ▸ Service) = cellsOf r
 cellsOf (r ▸ Reset) = cellsOf r
 
 -- the byte of an address from 0x15 to 0x1A. "Register reset restores .. the resets above ..; it leaves .. 0x19 bit 7."
-abbrev pub restored : ℕ → ℕ → ℕ
-restored address held = pick (eqb address 0x19) (held / 128 * 128 + resetByte address % 128) (resetByte address)
+abbrev pub restoredByte : Profile → ℕ → ℕ → ℕ
+restoredByte p address held = pick (eqb address (enBypassLlExit .address)) (keptFrom enBypassLlExit held (resetByte p address)) (resetByte p address)
 
 unfoldable pub byteOf : ℕ → Run → ℕ
-byteOf at (powered p) = resetByte at
+byteOf at (powered p) = resetByte p at
 byteOf at (r ▸ Set number value) = byteOf at r
-byteOf at (r ▸ Write address byte) = pick (eqb address at) (takenOf false at (byteOf at r) byte) (byteOf at r)
+byteOf at (r ▸ Write address byte) = pick (eqb address at) (takenOf (profileOf r) false at (byteOf at r) byte) (byteOf at r)
 byteOf at (r ▸ TakeFlags) = byteOf at r
 byteOf at (r ▸ Observe x) = byteOf at r
 byteOf at (r ▸ Service) = byteOf at r
-byteOf at (r ▸ Reset) = restored at (byteOf at r)
+byteOf at (r ▸ Reset) = restoredByte (profileOf r) at (byteOf at r)
+
+-- a field of the registers, by its name
+abbrev pub fieldAt : Field → Run → ℕ
+fieldAt f r = digitOf f (byteOf (f .address) r)

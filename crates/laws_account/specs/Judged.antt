@@ -1,5 +1,5 @@
 -- The account, what settling judges of a moment before any phase: clamps, base, comparators, band, permission.
-use Prim.Native.Nat.{ℕ, _-_, _/_, _%_}
+use Prim.Native.Nat.{ℕ, _-_, _%_}
 use mathlib.Core.Bool.{Bool, true, false, not, _&&_, _||_}
 use lib.Dec.{leb, eqb}
 use lib.IntN.{pos}
@@ -12,13 +12,14 @@ use Rattle.base.specs.declared.units.PackMv.{PackMv}
 use Rattle.state_parts.specs.Pins.{vchgOf, ichgOf}
 use Rattle.state_parts.specs.declared.band.Band.{Band}
 use Rattle.state_parts.specs.declared.band.Band.the-variants.{Normal, Cold, Cool, Warm, Hot}
+use Rattle.state_fields.specs.Rows.{enTs, enJeita, tsTh1, tsTh2, tsTh3, tsTh5, jeitaIsetc, jeitaIseth, jeitaVset}
 use Rattle.settle_bands.specs.Thresholds.{th1At, th2At, th3At, th5At}
 use Rattle.settle_bands.specs.Effect.{coolShare, warmShare, warmCut}
 use Rattle.settle_levels.specs.Comparators.{shortReturnsAt, shortEndsAt, lowEndsAt}
 use Rattle.settle_levels.specs.Voltage.{rechargeShareAt}
 use Rattle.settle_permission.specs.Bits.{ceHigh, hizHigh, regulatedOf}
 use Rattle.laws_account.specs.History.{Run, powered, _▸_, since}
-use Rattle.laws_account.specs.Held.{profileOf, sampleOf, vchg, ichg, overridden, cellsOf, byteOf}
+use Rattle.laws_account.specs.Held.{profileOf, sampleOf, vchg, ichg, overridden, cellsOf, fieldAt}
 use Rattle.laws_account.specs.Valued.{pinFault, settingOf, enabled}
 
 unfoldable pub vbat : Run → PackMv
@@ -59,12 +60,12 @@ faultOrOn m = atPowerOn m || pinFault m
 -- "Short ends at 2,150 per cell, returns below 1,850 (1-2 cells); 2,200 and 2,000 (3-7)."
 unfoldable pub short : Run → Bool
 short =
-    since (λ m. below (vbat m) (inPack (shortEndsAt (cellsOf m)) (cellsOf m)))
-    (λ m. faultOrOn m || below (vbat m) (inPack (shortReturnsAt (cellsOf m)) (cellsOf m)))
+    since (λ m. below (vbat m) (inPack (shortEndsAt (profileOf m) (cellsOf m)) (cellsOf m)))
+    (λ m. faultOrOn m || below (vbat m) (inPack (shortReturnsAt (profileOf m) (cellsOf m)) (cellsOf m)))
 
 -- "Low ends at 30, 55, 66.7, 71.4% of base by VBAT_LOWV 0-3, returns 5 points lower."
 abbrev pub lowEnds : Run → ℕ
-lowEnds m = lowEndsAt (settingOf 7 m % 4)
+lowEnds m = lowEndsAt (profileOf m) (settingOf 7 m % 4)
 
 unfoldable pub low : Run → Bool
 low = since (λ m. belowShare (vbat m) (baseAt m) (lowEnds m)) (λ m. faultOrOn m || belowShare (vbat m) (baseAt m) (lowEnds m - 50))
@@ -74,39 +75,25 @@ unfoldable pub packOver : Run → Bool
 packOver =
     since (λ m. not (faultOrOn m) && not (belowShare (vbat m) (baseAt m) 1020)) (λ m. not (faultOrOn m) && not (belowShare (vbat m) (baseAt m) 1040))
 
--- 000, tables 6-31 and 6-32: the fields of 0x18 and 0x19
-abbrev pub tsOff : Run → Bool
-tsOff r = eqb (byteOf 0x19 r % 2) 0
-
-abbrev pub enJeita : Run → Bool
-enJeita r = eqb (byteOf 0x19 r / 2 % 2) 1
-
-abbrev pub isetc : Run → ℕ
-isetc r = byteOf 0x19 r / 4 % 4
-
-abbrev pub iseth : Run → ℕ
-iseth r = byteOf 0x19 r / 16 % 2
-
-abbrev pub vset : Run → ℕ
-vset r = byteOf 0x19 r / 32 % 4
-
 -- "Band, first that holds: EN_TS 0 normal; TS >= TH1 cold; TS <= TH5 hot; with EN_JEITA: TS >= TH2 cool; TS <= TH3 warm; else normal."
 unfoldable pub bandAt : Run → Band
 bandAt r =
+    let p = profileOf r in
     let ts = sampleOf r .ts in
-    pick (tsOff r) Normal
-    (pick (leb (th1At (byteOf 0x18 r % 4)) ts) Cold
-    (pick (leb ts (th5At (byteOf 0x18 r / 64 % 4))) Hot
-    (pick (enJeita r && leb (th2At (byteOf 0x18 r / 4 % 4)) ts) Cool
-    (pick (enJeita r && leb ts (th3At (byteOf 0x18 r / 16 % 4))) Warm
+    let jeita = eqb (fieldAt enJeita r) 1 in
+    pick (eqb (fieldAt enTs r) 0) Normal
+    (pick (leb (th1At p (fieldAt tsTh1 r)) ts) Cold
+    (pick (leb ts (th5At p (fieldAt tsTh5 r))) Hot
+    (pick (jeita && leb (th2At p (fieldAt tsTh2 r)) ts) Cool
+    (pick (jeita && leb ts (th3At p (fieldAt tsTh3 r))) Warm
     Normal))))
 
 -- "6 suspended, cold, hot, cool with JEITA_ISETC 0, warm with JEITA_VSET 0"
 abbrev pub suspendedIn : Band → Run → Bool
 suspendedIn Normal r = false
 suspendedIn Cold r = true
-suspendedIn Cool r = eqb (isetc r) 0
-suspendedIn Warm r = eqb (vset r) 0
+suspendedIn Cool r = eqb (fieldAt jeitaIsetc r) 0
+suspendedIn Warm r = eqb (fieldAt jeitaVset r) 0
 suspendedIn Hot r = true
 
 unfoldable pub suspended : Run → Bool
@@ -116,8 +103,8 @@ suspended r = suspendedIn (bandAt r) r
 abbrev pub shareIn : Band → Run → ℕ
 shareIn Normal r = 100
 shareIn Cold r = 100
-shareIn Cool r = coolShare (isetc r)
-shareIn Warm r = warmShare (iseth r)
+shareIn Cool r = coolShare (profileOf r) (fieldAt jeitaIsetc r)
+shareIn Warm r = warmShare (profileOf r) (fieldAt jeitaIseth r)
 shareIn Hot r = 100
 
 -- "less in warm 250, 100 or 0 per cell (JEITA_VSET 1-3)"
@@ -125,7 +112,7 @@ abbrev pub cutIn : Band → Run → CellMv
 cutIn Normal r = record { 0 = 0 }
 cutIn Cold r = record { 0 = 0 }
 cutIn Cool r = record { 0 = 0 }
-cutIn Warm r = warmCut (vset r)
+cutIn Warm r = warmCut (profileOf r) (fieldAt jeitaVset r)
 cutIn Hot r = record { 0 = 0 }
 
 -- "Charge voltage: base, less in warm .. per cell"
@@ -146,7 +133,7 @@ tapering r = within (vbat r) (chargeVoltage r) 10
 
 -- "VBAT is below 92.7, 94.1, 95.5, 97% of base by VRECHG 0-3"
 unfoldable pub rechargeDue : Run → Bool
-rechargeDue r = belowShare (vbat r) (baseAt r) (rechargeShareAt (settingOf 8 r % 4))
+rechargeDue r = belowShare (vbat r) (baseAt r) (rechargeShareAt (profileOf r) (settingOf 8 r % 4))
 
 -- "EN_TERM, IBAT < ITERM, no regulation"
 unfoldable pub ending : Run → Bool

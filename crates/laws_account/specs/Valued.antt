@@ -1,5 +1,5 @@
 -- The account, the settings: each by its number, 1 to 14, as a run's events leave it.
-use Prim.Native.Nat.{ℕ, _%_}
+use Prim.Native.Nat.{ℕ}
 use mathlib.Core.Bool.{Bool, not, _&&_, _||_}
 use lib.Dec.{eqb}
 use Rattle.base.specs.Pick.{pick}
@@ -7,6 +7,7 @@ use Rattle.base.specs.Units.{inPack}
 use Rattle.base.specs.Volts.{millivoltsOf}
 use Rattle.state_parts.specs.Pins.{vchgOf}
 use Rattle.state_parts.specs.declared.profile.Profile.{Profile}
+use Rattle.state_fields.specs.Rows.{digitOf, cellPin}
 use Rattle.state_start.specs.Values.{startVsysmin, startSettings}
 use Rattle.state_settings.specs.Numbered.{heldOf}
 use Rattle.laws_account.specs.History.{Run, powered, _▸_}
@@ -25,7 +26,7 @@ startValue p cells number = heldOf (startSettings p cells) number
 -- a count that was taken: "Then VSYSMIN takes its start value and VREG becomes vchg x count (unchanged if vchg is 0)."
 abbrev pub recounted : Profile → ℕ → ℕ → ℕ → ℕ
 recounted p cells number held =
-    pick (eqb number 6) (millivoltsOf (startVsysmin cells))
+    pick (eqb number 6) (millivoltsOf (startVsysmin p cells))
     (pick (eqb number 1 && not (eqb (p .vchg) 0)) (millivoltsOf (inPack (vchgOf p) cells)) held)
 
 -- a pin fault "forces EN_CHG 0", and nothing but a set or a reset makes it 1 again
@@ -37,7 +38,7 @@ abbrev pub givenBy : ℕ → Run → ℕ → ℕ
 givenBy number (powered p) held = startValue p (p .cell) number
 givenBy number (r ▸ Set n value) held = pick (eqb n number) value held
 givenBy number (r ▸ Write address byte) held =
-    pick (takes r (cellsOf r) address byte) (recounted (profileOf r) (byte % 8) number held) held
+    pick (takes r (cellsOf r) address byte) (recounted (profileOf r) (digitOf cellPin byte) number held) held
 givenBy number (r ▸ TakeFlags) held = held
 givenBy number (r ▸ Observe x) held = held
 givenBy number (r ▸ Service) held = held

@@ -52,17 +52,17 @@ module _ (s : State) (ok : stateOk s ≡ true) where
   sets : (number value : ℕ) → Says (On s) (Set number value) (setOf s number value)
   unfolding setOf
   sets number value =
-      tests (On s) (Set number value) 8 (not (knownSetting number)) _ (λ out. no-setting s number value ok (refuted (knownSetting number) (among number 1 14) out))
+      tests (On s) (Set number value) 8 (not (knownSetting (s .profile) number)) _ (λ out. no-setting s number value ok (refuted (knownSetting (s .profile) number) (among number 1 14) out))
       (λ known.
-      let listed = among number 1 14 .0 (not-false (knownSetting number) known) in
-      tests (On s) (Set number value) 9 (not (mayHold number value)) _
-      (λ out. bad-value s number value ok listed (refuted (mayHold number value) (value-in number value listed) out)) (λ _. inl refl))
+      let listed = among number 1 14 .0 (not-false (knownSetting (s .profile) number) known) in
+      tests (On s) (Set number value) 9 (not (mayHold (s .profile) number value)) _
+      (λ out. bad-value s number value ok listed (refuted (mayHold (s .profile) number value) (value-in (s .profile) number value listed) out)) (λ _. inl refl))
 
   writes : (address byte : ℕ) → Says (On s) (Write address byte) (writtenOf s address byte)
   unfolding writtenOf writeOf
-  writes address byte = by (not (knownAddress address)) (not (leb byte 255)) (eqb address 0x16) (not (frequencyOk byte)) refl refl refl refl
+  writes address byte = by (not (knownAddress address)) (not (leb byte 255)) (eqb address 0x16) (not (frequencyOk (s .profile) byte)) refl refl refl refl
     where
-      by : (unknown large at bad : Bool) → not (knownAddress address) ≡ unknown → not (leb byte 255) ≡ large → eqb address 0x16 ≡ at → not (frequencyOk byte) ≡ bad
+      by : (unknown large at bad : Bool) → not (knownAddress address) ≡ unknown → not (leb byte 255) ≡ large → eqb address 0x16 ≡ at → not (frequencyOk (s .profile) byte) ≡ bad
           → Says (On s) (Write address byte) (afterWrite (pick unknown (refused 10) (pick large (refused 5) (pick (at && bad) (refused 11) (accepted (writtenTo s address byte))))))
       by true large at bad a b c d = inr (no-address s address byte ok (refuted (knownAddress address) (among address 0x15 0x1C) a))
       by false true at bad a b c d = inr (bad-byte s address byte (among address 0x15 0x1C .0 (not-false (knownAddress address) a)) (leb-false byte 255 (not-true (leb byte 255) b)))
@@ -70,7 +70,7 @@ module _ (s : State) (ok : stateOk s ≡ true) where
       by false false true false a b c d = inl refl
       by false false true true a b c d =
           inr (subst (λ (n : ℕ). Row 11 (On s) (Write n byte)) (sym (eqb-true address 0x16 c))
-          (bad-frequency s byte ok (leb-true byte 255 (not-false (leb byte 255) b)) (bad-frequency-is byte .0 d)))
+          (bad-frequency s byte ok (leb-true byte 255 (not-false (leb byte 255) b)) (bad-frequency-is (s .profile) byte .0 d)))
 
   observes : (x : SpelledSample) (t : Bool) → sampleInRange x ≡ t → Says (On s) (Observe x) (movedOf s (pick t (Follows (later.Observe (heldSample x))) FollowsOutside))
   unfolding movedOf followedOf observeOf
@@ -154,11 +154,11 @@ rows-give (not-powered (Observe x) other) = either (sampleInRange x)
 rows-give (not-powered Service other) = refl
 rows-give (not-powered Reset other) = refl
 rows-give (too-far s x ok fits far) = simp (ok, sample-in x .1 fits, lt-ltb 3600000 (elapsedOf (s .sample .stamp) (x .stamp)) far)
-rows-give (no-setting s number value ok out) = simp (ok, failed (knownSetting number) (among number 1 14) out)
+rows-give (no-setting s number value ok out) = simp (ok, failed (knownSetting (s .profile) number) (among number 1 14) out)
 rows-give (bad-value s number value ok known out) =
-    simp (ok, among number 1 14 .1 known, failed (mayHold number value) (value-in number value known) out)
+    simp (ok, among number 1 14 .1 known, failed (mayHold (s .profile) number value) (value-in (s .profile) number value known) out)
 rows-give (no-address s address byte ok out) = simp (ok, address-first s address byte (failed (knownAddress address) (among address 0x15 0x1C) out))
-rows-give (bad-frequency s byte ok small bad) = simp (ok, then-frequency s 0x16 byte refl (le-leb byte 255 small) (bad-frequency-is byte .1 bad))
+rows-give (bad-frequency s byte ok small bad) = simp (ok, then-frequency s 0x16 byte refl (le-leb byte 255 small) (bad-frequency-is (s .profile) byte .1 bad))
 
 -- the same of the step
 abbrev SaysStep : Model → Event → ℕ → Type 0

@@ -12,6 +12,7 @@ use Rattle.base.proofs.Tests.{and-iff, leb-iff}
 use Rattle.state_fields.specs.Rows.{frequencyOk}
 use Rattle.log_event.specs.declared.spelled.SpelledProfile.{SpelledProfile}
 use Rattle.log_event.specs.declared.spelled.SpelledSample.{SpelledSample}
+use Rattle.state_parts.specs.declared.profile.Profile.{Profile}
 use Rattle.state_settings.specs.Ranges.{rangeOf, knownSetting, mayHold}
 use Rattle.step_turns.specs.Ranges.{profileInRange, sampleInRange}
 use Rattle.laws_step.specs.Rows.{Among, ProfileIn, SampleIn, ValueIn}
@@ -68,12 +69,12 @@ sample-in x = (
       simp (and-iff, leb-iff, leZ-iff) (((((k .input, k .pack), k .ibat .0), k .ibat .1), k .ts), k .bits),
 )
 
-pub value-in : (number value : ℕ) → Among number 1 14 → (mayHold number value ≡ true) ↔ ValueIn number value
+pub value-in : (p : Profile) (number value : ℕ) → Among number 1 14 → (mayHold p number value ≡ true) ↔ ValueIn p number value
 unfolding mayHold
-value-in number value known =
-    let r = rangeOf number in (
+value-in p number value known =
+    let r = rangeOf p number in (
       λ e.
-          let k = and-iff (knownSetting number) ((leb (r .low) value && leb value (r .high)) && eqb (value % r .step) 0) .0 e .1 in
+          let k = and-iff (knownSetting p number) ((leb (r .low) value && leb value (r .high)) && eqb (value % r .step) 0) .0 e .1 in
           let l = and-iff (leb (r .low) value && leb value (r .high)) (eqb (value % r .step) 0) .0 k in
           record { range = among value (r .low) (r .high) .0 (l .0); step = eqb-true (value % r .step) 0 (l .1) },
       λ k.
@@ -81,13 +82,13 @@ value-in number value known =
     )
 
 -- "written 0 or 7"
-pub bad-frequency-is : (byte : ℕ) → (not (frequencyOk byte) ≡ true) ↔ ((byte % 8 ≡ 0) ⊎ (byte % 8 ≡ 7))
-bad-frequency-is byte = (λ e. by (leb 1 (byte % 8)) refl (not-true (frequencyOk byte) e), λ k. back k)
+pub bad-frequency-is : (p : Profile) (byte : ℕ) → (not (frequencyOk p byte) ≡ true) ↔ ((byte % 8 ≡ 0) ⊎ (byte % 8 ≡ 7))
+bad-frequency-is p byte = (λ e. by (leb 1 (byte % 8)) refl (not-true (frequencyOk p byte) e), λ k. back k)
   where
     by : (t : Bool) → leb 1 (byte % 8) ≡ t → (t && leb (byte % 8) 6) ≡ false → (byte % 8 ≡ 0) ⊎ (byte % 8 ≡ 7)
     by true e f = inr (omega (arith, leb-false (byte % 8) 6 f))
     by false e f = inl (omega (arith, leb-false 1 (byte % 8) e))
 
-    back : (byte % 8 ≡ 0) ⊎ (byte % 8 ≡ 7) → not (frequencyOk byte) ≡ true
+    back : (byte % 8 ≡ 0) ⊎ (byte % 8 ≡ 7) → not (frequencyOk p byte) ≡ true
     back (inl z) = simp (lt-leb 1 (byte % 8) (omega arith))
     back (inr z) = simp (le-leb 1 (byte % 8) (omega arith), lt-leb (byte % 8) 6 (omega arith))

@@ -7,6 +7,7 @@ use mathlib.Core.Logic.{_≢_, _⊎_}
 use lib.IntN.{pos, negsuc}
 use lib.Signed.{_≤ℤ_}
 use Rattle.base.specs.Stamps.{elapsedOf}
+use Rattle.state_parts.specs.declared.profile.Profile.{Profile}
 use Rattle.state_parts.specs.declared.state.State.{State}
 use Rattle.state_parts.specs.declared.state.Model.{Model}
 use Rattle.state_parts.specs.declared.state.Model.the-variants.{Off, On}
@@ -43,9 +44,9 @@ pub record SampleIn (x : SpelledSample) : Type 0 where
   pub bits : x .bits ≤ 63
 
 -- "6 VSYSMIN 3,000-28,000 step 20" and so on: in its range and on its step, by the settings' table
-pub record ValueIn (number value : ℕ) : Type 0 where
-  pub range : Among value (rangeOf number .low) (rangeOf number .high)
-  pub step : value % rangeOf number .step ≡ 0
+pub record ValueIn (p : Profile) (number value : ℕ) : Type 0 where
+  pub range : Among value (rangeOf p number .low) (rangeOf p number .high)
+  pub step : value % rangeOf p number .step ≡ 0
 
 pub data Row : ℕ → Model → Event → Type 0 where
   -- 5: "a number outside kind 1, 3 or 5's ranges above, or a handed-in model's field outside what it may hold"
@@ -60,7 +61,7 @@ pub data Row : ℕ → Model → Event → Type 0 where
   -- 8: "setting number not 1-14"
   no-setting : (s : State) (number value : ℕ) → stateOk s ≡ true → ¬ Among number 1 14 → Row 8 (On s) (Set number value)
   -- 9: "setting value outside its range or off its step"
-  bad-value : (s : State) (number value : ℕ) → stateOk s ≡ true → Among number 1 14 → ¬ ValueIn number value → Row 9 (On s) (Set number value)
+  bad-value : (s : State) (number value : ℕ) → stateOk s ≡ true → Among number 1 14 → ¬ ValueIn (s .profile) number value → Row 9 (On s) (Set number value)
   -- 10: "address not 0x15-0x1C"
   no-address : (s : State) (address byte : ℕ) → stateOk s ≡ true → ¬ Among address 0x15 0x1C → Row 10 (On s) (Write address byte)
   -- 11: "FSW (0x16 bits 2:0) written 0 or 7"
