@@ -1,5 +1,6 @@
 -- Facts on tests and choices alone.
-use Prim.Native.Nat.{ℕ, _+_}
+use Prim.Native.Nat.{ℕ, _+_, min}
+use native.Mathlib.Omega.{arith}
 use native.Mathlib.Nat.{add-zero}
 use mathlib.Core.Path.{_≡_, refl, sym}
 use mathlib.Core.Bool.{Bool, true, false, not, _&&_, _||_}
@@ -69,3 +70,6 @@ or-swap true true = refl
 or-swap true false = refl
 or-swap false true = refl
 or-swap false false = refl
+
+pub zero-low : (top : ℕ) → 0 ≡ min 0 top
+zero-low top = omega arith

@@ -15,6 +15,7 @@ use Rattle.laws_account.specs.History.{Run, _▸_, sumAfter}
 use Rattle.step_turns.specs.declared.later.Later.{Later}
 use Rattle.step_turns.specs.declared.later.Later.the-variants.{Observe}
 use Rattle.laws_account.specs.Held.{profileOf, sampleOf, elapsed, wasServed, unserved, expired}
+use Rattle.laws_account.proofs.Choices.{zero-low}
 use Rattle.laws_account.specs.States.{watchdogAt}
 
 capped : (time ms top : ℕ) → min (min time top + ms) top ≡ min (time + ms) top
@@ -39,9 +40,6 @@ counted-is r x = λ i. record { count = capped (unserved r) (elapsedOf (sampleOf
 pub served-is : (r : Run) (e : Later) → wasServed (r ▸ e) ≡ true → startWatchdog ≡ watchdogAt (r ▸ e)
 unfolding watchdogAt unserved sumAfter
 served-is r e h = rw h (λ i. record { count = zero-low (profileOf (r ▸ e) .watchdog * 1000) i })
-  where
-    zero-low : (top : ℕ) → 0 ≡ min 0 top
-    zero-low top = omega arith
 
 pub waits : (r : Run) (e : Later) → wasServed (r ▸ e) ≡ false → elapsed (r ▸ e) ≡ 0 → watchdogAt r ≡ watchdogAt (r ▸ e)
 unfolding watchdogAt unserved sumAfter profileOf

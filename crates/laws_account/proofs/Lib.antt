@@ -1,7 +1,7 @@
 -- The laws of the crate `laws_account`.
 pub mod Past
 mod Rule
-mod Choices
+pub mod Choices
 mod Dogs
 mod Values
 mod Bytes

@@ -29,6 +29,7 @@ use Rattle.laws_account.specs.Judged.{vbat, packClamp, baseAt, lowEnds, 
 use Rattle.laws_account.specs.Cycles.{isDone, timeIn, phaseBy, phasesOf, phaseAt}
 use Rattle.laws_account.specs.Flagged.{wasTaken, flagged}
 use Rattle.laws_account.specs.States.{settingsAt, registersAt, latchesAt, watchdogAt, cycleAt, flagsAt, stateBy, stateOf}
+use Rattle.laws_account.proofs.Choices.{zero-low}
 use Rattle.laws_account.proofs.Values.{start-is, force-is}
 use Rattle.laws_account.proofs.Judging.{fault-is}
 use Rattle.laws_account.proofs.Settling.{flaggedWith}
@@ -122,9 +123,6 @@ module _ (p : Profile) where
     done-start : false ≡ isDone phaseAt on
     unfolding isDone since
     done-start = rw (sym phase-start)
-
-    zero-low : (top : ℕ) → 0 ≡ min 0 top
-    zero-low top = omega arith
 
     settled-start : settledOf begun (latchesAt on) (bandAt on) (testsOf begun (latchesAt on) (bandAt on) false) ≡ flaggedWith on noFlags
     unfolding settledOf testsOf cycleOf phaseOf judgedOf endsOf clearsOf permittedOf latchesAt inputOk since sampleOf profileOf cycleAt timeIn sumAfter watchdogAt unserved

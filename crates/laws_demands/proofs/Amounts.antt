@@ -25,9 +25,10 @@ use Rattle.state_valid.proofs.Begins.{start-settings-pass}
 use Rattle.state_valid.proofs.Bounds.{profile-bounds}
 use Rattle.state_valid.proofs.Wholes.{Holding, apart}
 use Rattle.laws_account.specs.History.{Run}
-use Rattle.laws_account.specs.Held.{profileOf, ichg, overridden}
+use Rattle.laws_account.specs.Held.{profileOf, ichg, overridden, fieldAt}
+use Rattle.state_fields.specs.Rows.{jeitaIsetc, jeitaIseth}
 use Rattle.laws_account.specs.Valued.{settingOf}
-use Rattle.laws_account.specs.Judged.{chargeClamp, isetc, iseth, shareIn}
+use Rattle.laws_account.specs.Judged.{chargeClamp, shareIn}
 use Rattle.laws_account.specs.Refused.{Accepted}
 use Rattle.laws_account.specs.States.{settingsAt, stateBy, stateOf}
 use Rattle.laws_account.proofs.Agreeing.{fine}
@@ -36,7 +37,7 @@ use Rattle.laws_demands.specs.Demand.{SuspendingIn}
 holding : (r : Run) → Accepted r → Holding (stateOf r)
 holding r h = apart (stateOf r) (fine r h)
 
-settings-hold : (r : Run) → Accepted r → settingsOk (settingsAt r) ≡ true
+settings-hold : (r : Run) → Accepted r → settingsOk (profileOf r) (settingsAt r) ≡ true
 unfolding stateBy
 settings-hold r h = holding r h .settings
 
@@ -45,17 +46,17 @@ unfolding stateBy
 profile-holds r h = holding r h .profile
 
 -- each setting is at least its range's low end
-setting-least : (s : Settings) → settingsOk s ≡ true → (n : ℕ) → 1 ≤ n → n ≤ 14 → rangeOf n .low ≤ heldOf s n
+setting-least : (p : Profile) (s : Settings) → settingsOk p s ≡ true → (n : ℕ) → 1 ≤ n → n ≤ 14 → rangeOf p n .low ≤ heldOf s n
 unfolding settingsOk
-setting-least s h n l u = at-least n (heldOf s n) (each-may s 14 n h l u)
+setting-least p s h n l u = at-least p n (heldOf s n) (each-may p s 14 n h l u)
 
 pub ichg-least : (r : Run) → Accepted r → 40 ≤ settingOf 2 r
 unfolding rangeOf ranges heldOf settingNumbers settingsAt
-ichg-least r h = setting-least (settingsAt r) (settings-hold r h) 2 (omega arith) (omega arith)
+ichg-least r h = setting-least (profileOf r) (settingsAt r) (settings-hold r h) 2 (omega arith) (omega arith)
 
 pub iprechg-least : (r : Run) → Accepted r → 20 ≤ settingOf 3 r
 unfolding rangeOf ranges heldOf settingNumbers settingsAt
-iprechg-least r h = setting-least (settingsAt r) (settings-hold r h) 3 (omega arith) (omega arith)
+iprechg-least r h = setting-least (profileOf r) (settingsAt r) (settings-hold r h) 3 (omega arith) (omega arith)
 
 -- every pin code but 0 is a current, and ICHG starts at it
 pin-least : (p : Profile) → profileOk p ≡ true → (p .ichg ≡ 0 → ⊥) → 40 ≤ ichgOf p
@@ -63,7 +64,7 @@ unfolding rangeOf ranges heldOf settingNumbers startSettings startIchg
 pin-least p h n =
     let b = profile-bounds p h in
     let start = start-settings-pass p 0 (b .vchg) (b .ichg) (omega arith) in
-    rw (ne-eqb (p .ichg) 0 n) at (setting-least (startSettings p 0) start 2 (omega arith) (omega arith))
+    rw (ne-eqb (p .ichg) 0 n) at (setting-least p (startSettings p 0) start 2 (omega arith) (omega arith))
 
 pub clamp-least : (r : Run) → Accepted r → ((profileOf r .ichg ≡ 0) × (overridden ichg r ≡ false) → ⊥) → 40 ≤ chargeClamp r
 unfolding chargeClamp
@@ -81,15 +82,15 @@ some (suc n) h = omega arith
 pub share-least : (b : Band) (r : Run) → (SuspendingIn b r → ⊥) → 20 ≤ shareIn b r
 share-least Normal r h = omega arith
 share-least Cold r h = omega arith
-share-least Cool r h = leb-true 20 _ (tested (λ (k : ℕ). leb 20 (coolShare k)) 1 3 (isetc r) refl (some (isetc r) h) (omega arith))
-share-least Warm r h = leb-true 20 _ (tested (λ (k : ℕ). leb 20 (warmShare k)) 0 2 (iseth r) refl (omega arith) (omega arith))
+share-least Cool r h = leb-true 20 _ (tested (λ (k : ℕ). leb 20 (coolShare (profileOf r) k)) 1 3 (fieldAt jeitaIsetc r) refl (some (fieldAt jeitaIsetc r) h) (omega arith))
+share-least Warm r h = leb-true 20 _ (tested (λ (k : ℕ). leb 20 (warmShare (profileOf r) k)) 0 2 (fieldAt jeitaIseth r) refl (omega arith) (omega arith))
 share-least Hot r h = omega arith
 
 pub share-most : (b : Band) (r : Run) → shareIn b r ≤ 100
 share-most Normal r = omega arith
 share-most Cold r = omega arith
-share-most Cool r = leb-true _ 100 (tested (λ (k : ℕ). leb (coolShare k) 100) 0 4 (isetc r) refl (omega arith) (omega arith))
-share-most Warm r = leb-true _ 100 (tested (λ (k : ℕ). leb (warmShare k) 100) 0 2 (iseth r) refl (omega arith) (omega arith))
+share-most Cool r = leb-true _ 100 (tested (λ (k : ℕ). leb (coolShare (profileOf r) k) 100) 0 4 (fieldAt jeitaIsetc r) refl (omega arith) (omega arith))
+share-most Warm r = leb-true _ 100 (tested (λ (k : ℕ). leb (warmShare (profileOf r) k) 100) 0 2 (fieldAt jeitaIseth r) refl (omega arith) (omega arith))
 share-most Hot r = omega arith
 
 -- a share of the lower of two

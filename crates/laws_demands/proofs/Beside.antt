@@ -16,7 +16,7 @@ cycle-starts-last r =
     record { inside = last-le (starts phaseAt) (λ m. 0) r; starting = k .0; last = k .1 }
 
 -- a stage is held in a phase that charges
-held-charges : (s : Stage) (q : Phase) → heldIn s (phaseNumber q) ≡ true → charging q ≡ true
+held-charges : (s : Stage) (q : Phase) → heldIn s q ≡ true → charging q ≡ true
 held-charges s Trickle h = refl
 held-charges s Precharge h = refl
 held-charges s Fast h = refl

@@ -13,6 +13,7 @@ use Rattle.state_parts.specs.declared.profile.Profile.{Profile}
 use Rattle.state_parts.specs.Stages.{charging}
 use Rattle.settle_phases.specs.Order.{firstPhase}
 use Rattle.settle_permission.specs.Bits.{shutdownOf}
+use Rattle.laws_account.proofs.Choices.{middle}
 use Rattle.laws_account.specs.History.{Run, powered, _▸_, since, sumAfter}
 use Rattle.step_turns.specs.declared.later.Later.{Later}
 use Rattle.laws_account.specs.Held.{profileOf, sampleOf, wasReset}
@@ -79,11 +80,6 @@ reach-cleared limit false false x = refl
 spread : (c a b d : Bool) → ((not c && a) || (not c && b) || (not c && d)) ≡ (not c && (a || b || d))
 spread true a b d = refl
 spread false a b d = refl
-
-middle : (a b c : Bool) → ((a && b) && c) ≡ (b && (a && c))
-middle true b c = refl
-middle false true c = refl
-middle false false c = refl
 
 -- shut down or over
 abbrev pub faulty : Run → Bool

@@ -6,9 +6,10 @@ use Rattle.state_parts.specs.declared.band.Band.the-variants.{Normal, Cold, Coo
 use Rattle.state_parts.specs.Stages.{charging}
 use Rattle.settle_permission.specs.Bits.{ceHigh, hizHigh, shutdownOf}
 use Rattle.laws_account.specs.History.{Run}
-use Rattle.laws_account.specs.Held.{sampleOf}
+use Rattle.laws_account.specs.Held.{sampleOf, fieldAt}
+use Rattle.state_fields.specs.Rows.{jeitaIsetc, jeitaVset}
 use Rattle.laws_account.specs.Valued.{pinFault, settingOf, enabled}
-use Rattle.laws_account.specs.Judged.{inputGood, isetc, vset, bandAt, suspendedIn, suspended, highZ, permitted}
+use Rattle.laws_account.specs.Judged.{inputGood, bandAt, suspendedIn, suspended, highZ, permitted}
 use Rattle.laws_account.specs.Cycles.{phaseAt}
 use Rattle.laws_account.proofs.Past.{phase-keeps-rule}
 use Rattle.laws_demands.specs.Crossed.{InputGood}
@@ -46,8 +47,8 @@ permitted-means r =
 suspended-in : (b : Band) (r : Run) → Means (suspendedIn b r) (SuspendingIn b r)
 suspended-in Normal r = record { fact = λ t. false≢true t; test = λ h. absurd h }
 suspended-in Cold r = record { fact = λ t. tt; test = λ h. refl }
-suspended-in Cool r = eqb-means (isetc r) 0
-suspended-in Warm r = eqb-means (vset r) 0
+suspended-in Cool r = eqb-means (fieldAt jeitaIsetc r) 0
+suspended-in Warm r = eqb-means (fieldAt jeitaVset r) 0
 suspended-in Hot r = record { fact = λ t. tt; test = λ h. refl }
 
 pub suspended-means : (r : Run) → Means (suspended r) (Suspending r)

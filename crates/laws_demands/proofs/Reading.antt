@@ -9,10 +9,10 @@ use lib.ListN.{length, drop, length-drop}
 use lib.Dec.{ltb, eqb}
 use Rattle.base.specs.Pick.{pick}
 use Rattle.base.specs.Found.{Found, found, refused, moved}
-use Rattle.log_number.specs.Number.{after, readGroups, readNumber}
+use Rattle.log_number.specs.Number.{afterGroup, readGroups, readNumber}
 use Rattle.log_number.specs.Promises.{Bytes}
 use Rattle.log_event.specs.Items.{Shape, number, Item}
-use Rattle.log_event.specs.Kinds.{Row, kinds, rowFor}
+use Rattle.log_event.specs.Kinds.{KindRow, kinds, rowFor}
 use Rattle.log_event.specs.declared.Event.{Event}
 use Rattle.log_event.specs.declared.kinds.Kind.{Kind}
 use Rattle.log_record.specs.Items.{asNum, readItem, behind, andThen, readItems}
@@ -32,7 +32,7 @@ by-test : {A : Type 0} (t : Bool) (a b : Found A) → Known a → Known b → Kn
 by-test true a b ka kb = ka
 by-test false a b ka kb = kb
 
-more : (b : ℕ) (x : Found ℕ) → Known x → Known (after b x)
+more : (b : ℕ) (x : Found ℕ) → Known x → Known (afterGroup b x)
 more b (found v c) k = by-test (eqb v 0) _ _ (given 2 0 (omega arith, omega arith)) (value _ _)
 more b (refused n p) k = k
 
@@ -74,7 +74,7 @@ of-kind : (b : ℕ) (s : List ℕ) (k : Kind) (x : Found (List Item)) → Known 
 of-kind b s k (found is c) w = a-record _ _ _
 of-kind b s k (refused n p) (given m q w) = a-refusal b s n (w .0, omega (arith, w .1))
 
-of-row : (b : ℕ) (s : List ℕ) (x : Option Row) → Opens (b ∷ s) (ofRow x s)
+of-row : (b : ℕ) (s : List ℕ) (x : Option KindRow) → Opens (b ∷ s) (ofRow x s)
 of-row b s none = a-refusal b s 4 (omega arith, omega arith)
 of-row b s (some r) = of-kind b s (r .kind) (readItems (r .shapes) s) (in-items (r .shapes) s)
 

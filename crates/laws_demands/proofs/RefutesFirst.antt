@@ -23,7 +23,7 @@ use Rattle.state_fields.specs.Rows.{shownOf, fieldsAt, takenOf, fields}
 use Rattle.state_registers.specs.Reads.{byteAt}
 use Rattle.state_registers.specs.Resets.{resetOf, resetRegisters}
 use Rattle.state_registers.specs.Writes.{writeOf, writtenTo, recounted}
-use Rattle.state_fields.specs.Held.{withByte, storedAt, standsAt, fieldOf}
+use Rattle.state_fields.specs.Held.{withByte}
 use Rattle.settle_levels.specs.Clamps.{faultOf, baseOf, packClampOf}
 use Rattle.settle_levels.specs.Comparators.{latchesOf, shortOf, lowOf, packOverOf}
 use Rattle.settle_levels.specs.Voltage.{belowRecharge, taperOf, chargeVoltageOf}
@@ -61,7 +61,7 @@ stays : (buffer after : List ℕ) (n place : ℕ) → WrittenIn buffer (answer.r
 stays buffer after n place no-room = refl
 
 pub first-refuted : FirstRefuted
-unfolding forgets stopsAlways spills stepOf written spellEvent settleOf startState firstOf stateOk movedOf spellItems forcedOf latchesOf bandOf settledOf testsOf startSettings profileOk settingsOk registersOk cycleOk watchdogOk sampleOk setOf observeOf faultOf baseOf shortOf lowOf packOverOf cycleOf phaseOf permittedOf suspendsOf belowRecharge taperOf chargeVoltageOf endingOf startVreg startIchg startVsysmin mayHold finishOf storeOf writeOf observedOf resetOf spell packClampOf inPack belowShare clearsOf endsOf judgedOf reachedOf cutOf regulatedOf heldOf shownOf rangeOf edgesOf merged pulseOf writtenTo countedOf expiredOf clearedIf timesOf unitsOf resetRegisters groups restartsOf settingNumbers fieldsAt ranges seenOf recounted withByte storedAt standsAt fieldOf takenOf byteAt fields turnedBy changeOf followedOf writtenOf turnOf profileInRange sampleInRange seenOn
+unfolding forgets stopsAlways spills stepOf written spellEvent settleOf startState firstOf stateOk movedOf spellItems forcedOf latchesOf bandOf settledOf testsOf startSettings profileOk settingsOk registersOk cycleOk watchdogOk sampleOk setOf observeOf faultOf baseOf shortOf lowOf packOverOf cycleOf phaseOf permittedOf suspendsOf belowRecharge taperOf chargeVoltageOf endingOf startVreg startIchg startVsysmin mayHold finishOf storeOf writeOf observedOf resetOf spell packClampOf inPack belowShare clearsOf endsOf judgedOf reachedOf cutOf regulatedOf heldOf shownOf rangeOf edgesOf merged pulseOf writtenTo countedOf expiredOf clearedIf timesOf unitsOf resetRegisters groups restartsOf settingNumbers fieldsAt ranges seenOf recounted withByte takenOf byteAt fields turnedBy changeOf followedOf writtenOf turnOf profileInRange sampleInRange seenOn
 first-refuted = record {
   forgotten = λ read write d.
       differ 0 1 refl (ap (held (λ s. 1)) (d .steps (On (poweredOf (heldProfile paper))) (Set 15 0) .refused (λ z. omega arith) .model));

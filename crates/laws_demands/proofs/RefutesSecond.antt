@@ -14,7 +14,7 @@ use Rattle.log_number.specs.Number.{readNumber, readGroups}
 use Rattle.log_event.specs.Events.{kindOf, eventOf}
 use Rattle.log_event.specs.Kinds.{kindByte}
 use Rattle.log_event.specs.declared.Event.the-variants.{PowerOn, Write, Observe, Service, Reset}
-use Rattle.log_event.specs.Ibat.{signedOf}
+use Rattle.log_number.specs.Ibat.{signedOf}
 use Rattle.log_record.specs.Records.{Met, met, refused, end, recordAt, readRecord}
 use Rattle.log_record.specs.Items.{readItems}
 use Rattle.state_start.specs.Values.{startState, startSettings, startVsysmin, startVreg, startIchg}
@@ -26,7 +26,7 @@ use Rattle.state_fields.specs.Rows.{shownOf, resetByte, takenOf, fieldsAt, fiel
 use Rattle.state_registers.specs.Reads.{byteAt}
 use Rattle.state_registers.specs.Resets.{resetOf, resetRegisters}
 use Rattle.state_registers.specs.Writes.{writeOf, writtenTo, recounted}
-use Rattle.state_fields.specs.Held.{withByte, storedAt, standsAt, fieldOf}
+use Rattle.state_fields.specs.Held.{withByte}
 use Rattle.settle_levels.specs.Clamps.{baseOf, packClampOf, faultOf}
 use Rattle.settle_levels.specs.Comparators.{latchesOf, shortOf, lowOf, packOverOf}
 use Rattle.settle_levels.specs.Voltage.{chargeVoltageOf, belowRecharge, taperOf}
@@ -105,7 +105,7 @@ abbrev start : Past
 start = some on
 
 pub second-refuted : SecondRefuted
-unfolding outcomeOf stepOf reportAt currentAt voltageAt refusesAlways reportsZeros ignoresEvents worksOnce inventsTimes inventsCounts sameWrite scalesPrecharge timesAfter judgesCool printedBy refusalOf nextOf firstOf stateOk movedOf phaseAt settingOf fastAt chargeVoltage limitAt shareOf fastCurrent reportOf logFrom linesBy wholeOf stateBy profileOk settingsOk registersOk cycleOk watchdogOk sampleOk setOf observeOf phasesOf count chargeClamp bandAt baseAt inPack cellsOf profileOf chargeClampOf chargeVoltageOf inputLimitOf finishOf coolFirst settledOf testsOf lineBy pageOf startWalk settingsAt registersAt latchesAt cycleAt watchdogAt sampleOf flagsAt pulsed handedBack refusalIn mayHold storeOf writeOf observedOf resetOf phaseBy pinFault startValue overridden byteOf packClamp baseOf cutOf settleOf edgesOf merged pulseOf timesOf unitsOf bandOf cycleOf phaseOf permittedOf suspendsOf belowRecharge taperOf endingOf flagsNumber walkOf inputOk inputOver short low packOver timeIn isDone unserved flagged edge expired wasTaken elapsed startState heldOf shownOf rangeOf writtenTo countedOf expiredOf clearedIf startSettings resetRegisters permitted fault suspended wasDone rechargeDue chargeEnds tapering startVsysmin resetByte takenOf packClampOf forcedOf latchesOf seenOf regulatedOf clearsOf endsOf judgedOf faultOf reachedOf belowShare recordAt since vbat sumAfter starts gave wasReset wasServed inputGood limitReached settingNumbers fieldsAt ranges recounted withByte storedAt standsAt fieldOf byteAt startVreg startIchg limitFound wasObserved ending shortOf lowOf packOverOf restartsOf readRecord restarts unitsOfHistory fields timeFound metBy lineOf readItems eventOf signedOf readNumber readGroups turnedBy changeOf followedOf writtenOf turnOf profileInRange sampleInRange seenOn
+unfolding outcomeOf stepOf reportAt currentAt voltageAt refusesAlways reportsZeros ignoresEvents worksOnce inventsTimes inventsCounts sameWrite scalesPrecharge timesAfter judgesCool printedBy refusalOf nextOf firstOf stateOk movedOf phaseAt settingOf fastAt chargeVoltage limitAt shareOf fastCurrent reportOf logFrom linesBy wholeOf stateBy profileOk settingsOk registersOk cycleOk watchdogOk sampleOk setOf observeOf phasesOf count chargeClamp bandAt baseAt inPack cellsOf profileOf chargeClampOf chargeVoltageOf inputLimitOf finishOf coolFirst settledOf testsOf lineBy pageOf startWalk settingsAt registersAt latchesAt cycleAt watchdogAt sampleOf flagsAt pulsed handedBack refusalIn mayHold storeOf writeOf observedOf resetOf phaseBy pinFault startValue overridden byteOf packClamp baseOf cutOf settleOf edgesOf merged pulseOf timesOf unitsOf bandOf cycleOf phaseOf permittedOf suspendsOf belowRecharge taperOf endingOf flagsNumber walkOf inputOk inputOver short low packOver timeIn isDone unserved flagged edge expired wasTaken elapsed startState heldOf shownOf rangeOf writtenTo countedOf expiredOf clearedIf startSettings resetRegisters permitted fault suspended wasDone rechargeDue chargeEnds tapering startVsysmin resetByte takenOf packClampOf forcedOf latchesOf seenOf regulatedOf clearsOf endsOf judgedOf faultOf reachedOf belowShare recordAt since vbat sumAfter starts gave wasReset wasServed inputGood limitReached settingNumbers fieldsAt ranges recounted withByte byteAt startVreg startIchg limitFound wasObserved ending shortOf lowOf packOverOf restartsOf readRecord restarts unitsOfHistory fields timeFound metBy lineOf readItems eventOf signedOf readNumber readGroups turnedBy changeOf followedOf writtenOf turnOf profileInRange sampleInRange seenOn
 second-refuted = record {
   refuses = λ r report run read write d.
       let z : refusalNumber r ≡ 0 = ap (λ (o : Outcome). o .number) (d .moves none tt (PowerOn paper)) in

@@ -18,7 +18,7 @@ use Rattle.state_fields.specs.Rows.{resetByte, takenOf, fieldsAt, shownOf, fiel
 use Rattle.state_registers.specs.Reads.{byteAt}
 use Rattle.state_registers.specs.Resets.{resetOf, resetRegisters}
 use Rattle.state_registers.specs.Writes.{writeOf, writtenTo, recounted}
-use Rattle.state_fields.specs.Held.{withByte, storedAt, standsAt, fieldOf}
+use Rattle.state_fields.specs.Held.{withByte}
 use Rattle.settle_levels.specs.Clamps.{baseOf, packClampOf, faultOf}
 use Rattle.settle_levels.specs.Comparators.{latchesOf, shortOf, lowOf, packOverOf}
 use Rattle.settle_levels.specs.Voltage.{chargeVoltageOf, belowRecharge, taperOf}
@@ -74,7 +74,7 @@ unfolding ranBy worksOnce
 stays s t on next = ap (state s) (sym (ap (λ m. worksOnce m (Observe sampled) .model) on) ∙ next)
 
 pub third-refuted : ThirdRefuted
-unfolding reportOf refusalIn inventsTimes refusesAlways ignoresEvents reportsZeros ranBy fastCurrent chargeVoltageOf inputLimitOf stateBy phaseAt mayHold sampleOk elapsed stepOf chargeClampOf shareOf baseOf inPack cutOf profileOf settingsAt registersAt latchesAt cycleAt watchdogAt sampleOf bandAt flagsAt phasesOf count rangeOf firstOf stateOk movedOf packClampOf settingOf byteOf cellsOf overridden inputOk inputOver short low packOver timeIn isDone unserved flagged phaseBy ranges profileOk settingsOk registersOk cycleOk watchdogOk setOf observeOf resetByte takenOf expired since vbat belowShare baseAt sumAfter starts gave wasReset wasServed wasTaken permitted fault suspended wasDone rechargeDue chargeEnds tapering finishOf storeOf writeOf observedOf resetOf pinFault startValue fieldsAt packClamp restarts unitsOf edge inputGood limitFound wasObserved ending chargeVoltage settleOf startState heldOf shownOf edgesOf merged pulseOf writtenTo countedOf expiredOf clearedIf timesOf unitsOfCharger startSettings resetRegisters startVsysmin fields regulatedOf limitReached timeFound forcedOf latchesOf bandOf settledOf testsOf settingNumbers seenOf recounted withByte storedAt standsAt fieldOf byteAt startVreg startIchg faultOf shortOf lowOf packOverOf cycleOf phaseOf permittedOf suspendsOf belowRecharge taperOf endingOf reachedOf clearsOf endsOf judgedOf restartsOf turnedBy changeOf followedOf writtenOf turnOf profileInRange sampleInRange seenOn pastOf nextOf
+unfolding reportOf refusalIn inventsTimes refusesAlways ignoresEvents reportsZeros ranBy fastCurrent chargeVoltageOf inputLimitOf stateBy phaseAt mayHold sampleOk elapsed stepOf chargeClampOf shareOf baseOf inPack cutOf profileOf settingsAt registersAt latchesAt cycleAt watchdogAt sampleOf bandAt flagsAt phasesOf count rangeOf firstOf stateOk movedOf packClampOf settingOf byteOf cellsOf overridden inputOk inputOver short low packOver timeIn isDone unserved flagged phaseBy ranges profileOk settingsOk registersOk cycleOk watchdogOk setOf observeOf resetByte takenOf expired since vbat belowShare baseAt sumAfter starts gave wasReset wasServed wasTaken permitted fault suspended wasDone rechargeDue chargeEnds tapering finishOf storeOf writeOf observedOf resetOf pinFault startValue fieldsAt packClamp restarts unitsOf edge inputGood limitFound wasObserved ending chargeVoltage settleOf startState heldOf shownOf edgesOf merged pulseOf writtenTo countedOf expiredOf clearedIf timesOf unitsOfCharger startSettings resetRegisters startVsysmin fields regulatedOf limitReached timeFound forcedOf latchesOf bandOf settledOf testsOf settingNumbers seenOf recounted withByte byteAt startVreg startIchg faultOf shortOf lowOf packOverOf cycleOf phaseOf permittedOf suspendsOf belowRecharge taperOf endingOf reachedOf clearsOf endsOf judgedOf restartsOf turnedBy changeOf followedOf writtenOf turnOf profileInRange sampleInRange seenOn pastOf nextOf
 third-refuted = record {
   refuses = λ r report d. differ 0 1 refl (ap (held (λ s. 1)) (d (PowerOn paper ∷ []) on refl .1));
   zeros = λ step d. let some = d firstEvents first refl .2 .charges .1 (charges first (refl, (refl, refl)) (omega arith)) in absurd (omega arith);

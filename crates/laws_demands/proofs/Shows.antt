@@ -7,14 +7,14 @@ use lib.Dec.{leb}
 use borrow.Author.Tests.{leb-true, leb-false}
 use Rattle.base.specs.Pick.{pick}
 use Rattle.base.specs.Units.{inPack, lowerOf}
-use Rattle.base.specs.Volts.{millivoltsOf}
+use Rattle.base.specs.Volts.{millivoltsOf, packOf}
 use Rattle.base.specs.declared.units.PackMv.{PackMv}
 use Rattle.state_parts.specs.declared.phase.Phase.{Phase}
 use Rattle.state_parts.specs.declared.phase.Phase.the-variants.{Idle, Trickle, Precharge, Fast, Taper, Done, Suspended, Fault}
 use Rattle.settle_levels.specs.Clamps.{packClampOf, baseOf}
 use Rattle.settle_levels.specs.Voltage.{chargeVoltageOf}
 use Rattle.state_parts.specs.Stages.{charging}
-use Rattle.report_state.specs.Report.{chargeClampOf, fastCurrent, currentIn, voltageIn, reportOf}
+use Rattle.report_state.specs.Report.{chargeClampOf, fastCurrent, trickleCurrent, currentIn, reportOf}
 use Rattle.laws_account.specs.History.{Run}
 use Rattle.laws_account.specs.Held.{profileOf, cellsOf}
 use Rattle.laws_account.specs.Valued.{settingOf}
@@ -27,9 +27,9 @@ use Rattle.laws_demands.specs.Demand.{cut, clamp}
 use Rattle.laws_demands.proofs.Charges.{stage}
 
 -- the account's share, cut and amounts are those of the report
-pub current-is : (r : Run) → reportOf (stateOf r) .current ≡ currentIn (phaseAt r) (settingOf 3 r) (fastAt r)
+pub current-is : (r : Run) → reportOf (stateOf r) .current ≡ currentIn (phaseAt r) (trickleCurrent (profileOf r)) (settingOf 3 r) (fastAt r)
 unfolding reportOf fastAt stateBy settingsAt registersAt fastCurrent chargeClampOf chargeClamp
-current-is r = ap (λ share. currentIn (phaseAt r) (settingOf 3 r) (min (settingOf 2 r) (chargeClamp r) * share / 100)) (share-is (bandAt r) r)
+current-is r = ap (λ share. currentIn (phaseAt r) (trickleCurrent (profileOf r)) (settingOf 3 r) (min (settingOf 2 r) (chargeClamp r) * share / 100)) (share-is (bandAt r) r)
 
 lower-is : (a b : PackMv) → millivoltsOf (lowerOf a b) ≡ min (millivoltsOf a) (millivoltsOf b)
 lower-is a b = go (leb (millivoltsOf a) (millivoltsOf b)) refl
@@ -45,53 +45,42 @@ charge-is : (r : Run) → millivoltsOf (chargeVoltageOf (profileOf r) (settingsA
 unfolding chargeVoltageOf baseOf packClampOf packClamp settingsAt registersAt
 charge-is r = λ i. lower-is (settingsAt r .vreg) (packClamp r) i - millivoltsOf (inPack (cut-is (bandAt r) r i) (cellsOf r))
 
--- a phase that charges shows the voltage, and no other does
-shown-in : (q : Phase) (v none : PackMv) (t : Bool) → charging q ≡ t → voltageIn q v none ≡ pick t v none
-shown-in Idle v none t e = ap (λ b. pick b v none) e
-shown-in Trickle v none t e = ap (λ b. pick b v none) e
-shown-in Precharge v none t e = ap (λ b. pick b v none) e
-shown-in Fast v none t e = ap (λ b. pick b v none) e
-shown-in Taper v none t e = ap (λ b. pick b v none) e
-shown-in Done v none t e = ap (λ b. pick b v none) e
-shown-in Suspended v none t e = ap (λ b. pick b v none) e
-shown-in Fault v none t e = ap (λ b. pick b v none) e
-
 abbrev pub volts : Run → ℕ
 volts r = millivoltsOf (reportOf (stateOf r) .voltage)
 
 pub volts-are : (r : Run) (t : Bool) → charging (phaseAt r) ≡ t → volts r ≡ pick t (chargeAt r) 0
 unfolding reportOf stateBy
-volts-are r true e = ap millivoltsOf (shown-in (phaseAt r) _ _ true e) ∙ charge-is r
-volts-are r false e = ap millivoltsOf (shown-in (phaseAt r) _ _ false e)
+volts-are r true e = ap (λ b. millivoltsOf (pick b (chargeVoltageOf (profileOf r) (settingsAt r) (registersAt r) (bandAt r)) (packOf 0))) e ∙ charge-is r
+volts-are r false e = ap (λ b. millivoltsOf (pick b (chargeVoltageOf (profileOf r) (settingsAt r) (registersAt r) (bandAt r)) (packOf 0))) e
 
 pub volts-most : (r : Run) (t : Bool) → charging (phaseAt r) ≡ t → volts r ≤ chargeAt r
 volts-most r true e = omega (arith, volts-are r true e)
 volts-most r false e = omega (arith, volts-are r false e)
 
 -- a current is above zero in a phase that charges alone
-pub only-charging : (q : Phase) (a b : ℕ) → 0 < currentIn q a b → charging q ≡ true
-only-charging Idle a b h = absurd (omega (arith, h))
-only-charging Trickle a b h = refl
-only-charging Precharge a b h = refl
-only-charging Fast a b h = refl
-only-charging Taper a b h = refl
-only-charging Done a b h = absurd (omega (arith, h))
-only-charging Suspended a b h = absurd (omega (arith, h))
-only-charging Fault a b h = absurd (omega (arith, h))
+pub only-charging : (q : Phase) (t a b : ℕ) → 0 < currentIn q t a b → charging q ≡ true
+only-charging Idle t a b h = absurd (omega (arith, h))
+only-charging Trickle t a b h = refl
+only-charging Precharge t a b h = refl
+only-charging Fast t a b h = refl
+only-charging Taper t a b h = refl
+only-charging Done t a b h = absurd (omega (arith, h))
+only-charging Suspended t a b h = absurd (omega (arith, h))
+only-charging Fault t a b h = absurd (omega (arith, h))
 
-pub some-current : (q : Phase) (a b : ℕ) → 0 < a → 0 < b → charging q ≡ true → 0 < currentIn q a b
-some-current Idle a b h k t = absurd (false≢true t)
-some-current Trickle a b h k t = omega arith
-some-current Precharge a b h k t = h
-some-current Fast a b h k t = k
-some-current Taper a b h k t = k
-some-current Done a b h k t = absurd (false≢true t)
-some-current Suspended a b h k t = absurd (false≢true t)
-some-current Fault a b h k t = absurd (false≢true t)
+pub some-current : (q : Phase) (c a b : ℕ) → 0 < c → 0 < a → 0 < b → charging q ≡ true → 0 < currentIn q c a b
+some-current Idle c a b g h k t = absurd (false≢true t)
+some-current Trickle c a b g h k t = g
+some-current Precharge c a b g h k t = h
+some-current Fast c a b g h k t = k
+some-current Taper c a b g h k t = k
+some-current Done c a b g h k t = absurd (false≢true t)
+some-current Suspended c a b g h k t = absurd (false≢true t)
+some-current Fault c a b g h k t = absurd (false≢true t)
 
 -- the current of each stage
-pub staged-current : (sh lo ta : Bool) (a b : ℕ) → currentIn (stage sh lo ta) a b ≡ pick sh 100 (pick lo a b)
-staged-current true lo ta a b = refl
-staged-current false true ta a b = refl
-staged-current false false true a b = refl
-staged-current false false false a b = refl
+pub staged-current : (sh lo ta : Bool) (c a b : ℕ) → currentIn (stage sh lo ta) c a b ≡ pick sh c (pick lo a b)
+staged-current true lo ta c a b = refl
+staged-current false true ta c a b = refl
+staged-current false false true c a b = refl
+staged-current false false false c a b = refl

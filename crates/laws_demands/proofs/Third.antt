@@ -8,7 +8,7 @@ use mathlib.Core.List.{List, [], _∷_}
 use Rattle.base.specs.Pick.{pick}
 use Rattle.state_parts.specs.Pins.{ichgOf}
 use Rattle.state_parts.specs.Stages.{charging}
-use Rattle.report_state.specs.Report.{currentIn, reportOf}
+use Rattle.report_state.specs.Report.{trickleCurrent, currentIn, reportOf}
 use Rattle.step_event.specs.Steps.{stepOf}
 use Rattle.laws_account.specs.History.{Run}
 use Rattle.log_event.specs.declared.Event.{Event}
@@ -42,18 +42,18 @@ module _ (r : Run) where
   held : Charging r → charging (phaseAt r) ≡ true
   held c = charging-means r .test c
 
-  amounts : Charging r → current ≡ pick (short r) 100 (pick (low r) (settingOf 3 r) (fastAt r))
+  amounts : Charging r → current ≡ pick (short r) (trickleCurrent (profileOf r)) (pick (low r) (settingOf 3 r) (fastAt r))
   amounts c =
       current-is r
-      ∙ ap (λ q. currentIn q (settingOf 3 r) (fastAt r)) (stage-is phaseAt phase-keeps-rule r (held c))
-      ∙ staged-current (short r) (low r) (tapering r) (settingOf 3 r) (fastAt r)
+      ∙ ap (λ q. currentIn q (trickleCurrent (profileOf r)) (settingOf 3 r) (fastAt r)) (stage-is phaseAt phase-keeps-rule r (held c))
+      ∙ staged-current (short r) (low r) (tapering r) (trickleCurrent (profileOf r)) (settingOf 3 r) (fastAt r)
 
-  in-trickle : Charging r → Short r → current ≡ 100
-  in-trickle c s = amounts c ∙ ap (λ b. pick b 100 (pick (low r) (settingOf 3 r) (fastAt r))) (short-means r .test s)
+  in-trickle : Charging r → Short r → current ≡ trickleCurrent (profileOf r)
+  in-trickle c s = amounts c ∙ ap (λ b. pick b (trickleCurrent (profileOf r)) (pick (low r) (settingOf 3 r) (fastAt r))) (short-means r .test s)
 
   unshort : Charging r → (Short r → ⊥) → current ≡ pick (low r) (settingOf 3 r) (fastAt r)
   unshort c n =
-      amounts c ∙ ap (λ b. pick b 100 (pick (low r) (settingOf 3 r) (fastAt r))) (not-true (short r) (λ t. n (short-means r .fact t)))
+      amounts c ∙ ap (λ b. pick b (trickleCurrent (profileOf r)) (pick (low r) (settingOf 3 r) (fastAt r))) (not-true (short r) (λ t. n (short-means r .fact t)))
 
   in-precharge : Charging r → (Short r → ⊥) → Low r → current ≡ settingOf 3 r
   in-precharge c n l = unshort c n ∙ ap (λ b. pick b (settingOf 3 r) (fastAt r)) (low-means r .test l)
@@ -85,10 +85,10 @@ module _ (r : Run) where
       some-share (settingOf 2 r) (chargeClamp r) (shareIn (bandAt r) r) (ichg-least r h)
       (clamp-least r h (λ z. c .permitted .pinned (inr z))) (share-least (bandAt r) r (c .mild)) in
       let pre : 0 < settingOf 3 r = omega (arith, iprechg-least r h) in
-      subst (λ n. 0 < n) (sym (current-is r)) (some-current (phaseAt r) (settingOf 3 r) (fastAt r) pre fast (held c))
+      subst (λ n. 0 < n) (sym (current-is r)) (some-current (phaseAt r) (trickleCurrent (profileOf r)) (settingOf 3 r) (fastAt r) (omega arith) pre fast (held c))
 
   charges-from : 0 < current → Charging r
-  charges-from h = charging-means r .fact (only-charging (phaseAt r) (settingOf 3 r) (fastAt r) (subst (λ n. 0 < n) (current-is r) h))
+  charges-from h = charging-means r .fact (only-charging (phaseAt r) (trickleCurrent (profileOf r)) (settingOf 3 r) (fastAt r) (subst (λ n. 0 < n) (current-is r) h))
 
   -- of the account's state
   pub third-of : Accepted r → Third r (reportOf (stateOf r))

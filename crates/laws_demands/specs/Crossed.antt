@@ -33,10 +33,10 @@ FaultOrOn m = (count m ≡ 0) ⊎ PinFault m
 
 -- the points of a moment, in mV
 abbrev pub shortReturns : Run → ℕ
-shortReturns m = millivoltsOf (inPack (shortReturnsAt (cellsOf m)) (cellsOf m))
+shortReturns m = millivoltsOf (inPack (shortReturnsAt (profileOf m) (cellsOf m)) (cellsOf m))
 
 abbrev pub shortEnds : Run → ℕ
-shortEnds m = millivoltsOf (inPack (shortEndsAt (cellsOf m)) (cellsOf m))
+shortEnds m = millivoltsOf (inPack (shortEndsAt (profileOf m) (cellsOf m)) (cellsOf m))
 
 abbrev pub base : Run → ℕ
 base m = millivoltsOf (baseAt m)

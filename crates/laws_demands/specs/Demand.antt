@@ -12,16 +12,17 @@ use Rattle.state_parts.specs.declared.band.Band.the-variants.{Normal, Cold, Coo
 use Rattle.state_parts.specs.declared.state.State.{State}
 use Rattle.state_parts.specs.declared.state.Model.{Model}
 use Rattle.state_parts.specs.declared.state.Model.the-variants.{Off, On}
+use Rattle.state_fields.specs.Rows.{jeitaIsetc, jeitaVset}
 use Rattle.settle_permission.specs.Bits.{ceHigh, hizHigh, shutdownOf}
 use Rattle.log_event.specs.declared.Event.{Event}
 use Rattle.report_state.specs.declared.answer.Report.{Report}
-use Rattle.report_state.specs.Report.{reportOf}
+use Rattle.report_state.specs.Report.{trickleCurrent, reportOf}
 use Rattle.step_kinds.specs.Answers.{Outcome}
 use Rattle.step_event.specs.Pages.{wholeOf}
 use Rattle.laws_account.specs.History.{Run}
-use Rattle.laws_account.specs.Held.{profileOf, sampleOf, ichg, overridden, cellsOf}
+use Rattle.laws_account.specs.Held.{profileOf, sampleOf, ichg, overridden, cellsOf, fieldAt}
 use Rattle.laws_account.specs.Valued.{settingOf}
-use Rattle.laws_account.specs.Judged.{packClamp, chargeClamp, isetc, vset, bandAt, shareIn, cutIn}
+use Rattle.laws_account.specs.Judged.{packClamp, chargeClamp, bandAt, shareIn, cutIn}
 use Rattle.laws_account.specs.Cycles.{Stage}
 use Rattle.laws_account.specs.Refused.{none, some, pastOf}
 use Rattle.laws_account.specs.Runs.{logged}
@@ -47,8 +48,8 @@ Fault r = (shutdownOf (sampleOf r) ≡ true) ⊎ PackOver r
 abbrev pub SuspendingIn : Band → Run → Type 0
 SuspendingIn Normal r = ⊥
 SuspendingIn Cold r = Unit {0}
-SuspendingIn Cool r = isetc r ≡ 0
-SuspendingIn Warm r = vset r ≡ 0
+SuspendingIn Cool r = fieldAt jeitaIsetc r ≡ 0
+SuspendingIn Warm r = fieldAt jeitaVset r ≡ 0
 SuspendingIn Hot r = Unit {0}
 
 abbrev pub Suspending : Run → Type 0
@@ -83,7 +84,7 @@ pub record Third (r : Run) (q : Report) : Type 0 where
   -- "Charge current is reported above zero exactly when .."
   pub charges : (0 < q .current) ↔ Charging r
   -- "It is then 100 mA in trickle,"
-  pub trickle : Charging r → Short r → q .current ≡ 100
+  pub trickle : Charging r → Short r → q .current ≡ trickleCurrent (profileOf r)
   -- "the precharge setting in precharge,"
   pub precharge : Charging r → ¬ Short r → Low r → q .current ≡ settingOf 3 r
   -- "and otherwise no more than the charge setting, the pin clamp unless overridden, and the temperature band's share."

@@ -13,7 +13,7 @@ TimeIsSum = (s : Stage) (r : Run) → timeIn phaseAt s r ≡ timeRun s r
 
 -- a stage that is held has not reached its limit
 abbrev pub HeldBelowLimit : Type 0
-HeldBelowLimit = (s : Stage) (r : Run) → heldIn s (numberAt phaseAt r) ≡ true → ¬ Reached s r
+HeldBelowLimit = (s : Stage) (r : Run) → heldIn s (phaseAt r) ≡ true → ¬ Reached s r
 
 -- "A cycle starts where they last cleared": the power-on or a moment that starts one, and no later moment does
 pub record StartedAt (r : Run) (i : ℕ) : Type 0 where

@@ -4,7 +4,9 @@ use mathlib.Core.Bool.{Bool, true, false, _&&_}
 use lib.Dec.{leb, eqb}
 use Rattle.base.specs.Pick.{pick}
 use Rattle.base.specs.Stamps.{elapsedOf}
-use Rattle.state_parts.specs.With.{withRegisters, withCycle}
+use Rattle.state_parts.specs.With.{withRegisters, withCycle, withOverrides}
+use Rattle.state_parts.specs.declared.profile.Profile.{Profile}
+use Rattle.state_fields.specs.Rows.{digitOf, cellOverride}
 use Rattle.state_parts.specs.declared.band.Band.{Band}
 use Rattle.state_parts.specs.declared.band.Band.the-variants.{Normal, Cool}
 use Rattle.state_parts.specs.declared.registers.Registers.{Registers}
@@ -18,7 +20,7 @@ use Rattle.settle_bands.specs.Thresholds.{th2Of, tsOff, jeitaOn, bandOf}
 use Rattle.settle_bands.specs.Effect.{shareOf}
 use Rattle.settle_all.specs.Gather.{testsOf}
 use Rattle.settle_all.specs.Settle.{settledOf, settleOf}
-use Rattle.report_state.specs.Report.{currentIn, fastCurrent, reportOf}
+use Rattle.report_state.specs.Report.{trickleCurrent, currentIn, fastCurrent, reportOf}
 use Rattle.step_turns.specs.Turns.{heldSample}
 use Rattle.step_flags.specs.Edges.{seenOf}
 use Rattle.step_kinds.specs.Answers.{Outcome}
@@ -32,23 +34,12 @@ use Rattle.laws_demands.specs.Wrong.{withModel}
 
 -- "Using a CELL_PIN override from the same write": it is as the written byte has it before the byte is taken
 abbrev pub withOverride : Bool → Registers → Registers
-withOverride stands g = record {
-  r15 = g .r15;
-  r16 = g .r16;
-  r17 = g .r17;
-  r18 = g .r18;
-  r19 = g .r19;
-  r1a = g .r1a;
-  cells = g .cells;
-  vchgoverride = g .vchgoverride;
-  celloverride = stands;
-  ichgoverride = g .ichgoverride;
-}
+withOverride stands g = withOverrides g (g .vchgoverride) stands (g .ichgoverride)
 
 abbrev pub asWritten : Event → State → State
 asWritten (PowerOn p) s = s
 asWritten (Set number value) s = s
-asWritten (Write address byte) s = pick (eqb address 0x1B) (withRegisters s (withOverride (eqb (byte / 64 % 2) 1) (s .registers))) s
+asWritten (Write address byte) s = pick (eqb address (cellOverride .address)) (withRegisters s (withOverride (eqb (digitOf cellOverride byte) 1) (s .registers))) s
 asWritten TakeFlags s = s
 asWritten (Observe x) s = s
 asWritten Service s = s
@@ -62,7 +53,7 @@ sameWrite (On s) e = stepOf (On (asWritten e s)) e
 unfoldable pub scalesPrecharge : Reporter
 scalesPrecharge s = record {
   phase = s .phase;
-  current = currentIn (s .phase) (s .settings .iprechg * shareOf (s .registers) (s .band) / 100) (fastCurrent (s .profile) (s .settings) (s .registers) (s .band));
+  current = currentIn (s .phase) (trickleCurrent (s .profile)) (s .settings .iprechg * shareOf (s .profile) (s .registers) (s .band) / 100) (fastCurrent (s .profile) (s .settings) (s .registers) (s .band));
   voltage = reportOf s .voltage;
   limit = reportOf s .limit;
 }
@@ -87,12 +78,12 @@ timesAfter Off e = stepOf Off e
 timesAfter (On s) e = timedBy s e (stepOf (On s) e)
 
 -- "judging cool before cold": what an event leaves is judged again by that band
-unfoldable pub coolFirst : Registers → ℕ → Band
-coolFirst g ts = pick (tsOff g) Normal (pick (jeitaOn g && leb (th2Of g) ts) Cool (bandOf g ts))
+unfoldable pub coolFirst : Profile → Registers → ℕ → Band
+coolFirst p g ts = pick (tsOff g) Normal (pick (jeitaOn g && leb (th2Of p g) ts) Cool (bandOf p g ts))
 
 abbrev pub judgedCool : Model → Model
 judgedCool Off = Off
-judgedCool (On s) = let b = coolFirst (s .registers) (s .sample .ts) in On (settledOf s (s .latches) b (testsOf s (s .latches) b false))
+judgedCool (On s) = let b = coolFirst (s .profile) (s .registers) (s .sample .ts) in On (settledOf s (s .latches) b (testsOf s (s .latches) b false))
 
 unfoldable pub judgesCool : Step
 judgesCool m e = withModel (stepOf m e) (judgedCool (stepOf m e .model))

@@ -17,6 +17,7 @@ use Rattle.log_event.specs.declared.Event.{Event}
 use Rattle.log_event.specs.declared.Event.the-variants.{PowerOn, Set, Write, Observe}
 use Rattle.log_event.specs.declared.spelled.SpelledProfile.{SpelledProfile}
 use Rattle.log_event.specs.declared.spelled.SpelledSample.{SpelledSample}
+use Rattle.state_fields.specs.Rows.{digitOf, fsw}
 use Rattle.state_settings.specs.Ranges.{rangeOf}
 use Rattle.state_valid.specs.Holds.{stateOk}
 
@@ -65,4 +66,4 @@ pub data Row : ℕ → Model → Event → Type 0 where
   -- 10: "address not 0x15-0x1C"
   no-address : (s : State) (address byte : ℕ) → stateOk s ≡ true → ¬ Among address 0x15 0x1C → Row 10 (On s) (Write address byte)
   -- 11: "FSW (0x16 bits 2:0) written 0 or 7"
-  bad-frequency : (s : State) (byte : ℕ) → stateOk s ≡ true → byte ≤ 255 → (byte % 8 ≡ 0) ⊎ (byte % 8 ≡ 7) → Row 11 (On s) (Write 0x16 byte)
+  bad-frequency : (s : State) (byte : ℕ) → stateOk s ≡ true → byte ≤ 255 → (digitOf fsw byte ≡ 0) ⊎ (digitOf fsw byte ≡ 7) → Row 11 (On s) (Write (fsw .address) byte)
