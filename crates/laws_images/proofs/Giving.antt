@@ -11,34 +11,18 @@ use Rattle.base.specs.Pick.{pick}
 use Rattle.base.specs.Told.{accepted, refused}
 use Rattle.log_number.specs.Promises.{Bytes}
 use Rattle.log_event.specs.Items.{Shape, number, shapes, numbers, nums, AllFit}
-use Rattle.log_event.specs.Kinds.{shapesOf, Row, kinds, rowFor}
+use Rattle.log_event.specs.Kinds.{shapesOf, KindRow, kinds, rowFor}
 use Rattle.log_event.specs.Events.{itemsOf, eventOf}
 use Rattle.log_event.specs.declared.Event.{Event}
 use Rattle.log_event.specs.declared.kinds.Kind.{Kind}
+use Rattle.log_event.proofs.Table.{own-row}
 use Rattle.log_event.proofs.Remaking.{values-nums, all-numbers, every-kind}
 use Rattle.log_record.specs.Promises.{Spellable}
 use Rattle.c_words.specs.Words.{wordsIn}
 use Rattle.c_words.specs.Promises.{AllWords}
 use Rattle.c_words.proofs.WordLaws.{length-words}
-use Rattle.c_event.specs.Given.{ofRow, givenOf}
+use Rattle.c_event.specs.Given.{givenRow, givenOf}
 use Rattle.laws_images.proofs.Loading.{all-words}
-
--- each row of the table has its kind's shapes
-abbrev Own : Option Row → Type 0
-Own none = Unit {0}
-Own (some r) = r .shapes ≡ shapesOf (r .kind)
-
-abbrev EachOwn : List Row → Type 0
-EachOwn [] = Unit {0}
-EachOwn (r ∷ rs) = Own (some r) × EachOwn rs
-
-picked : (t : Bool) (r : Row) (x : Option Row) → Own (some r) → Own x → Own (pick t (some r) x)
-picked true r x h k = h
-picked false r x h k = k
-
-own : (rs : List Row) → EachOwn rs → (b : ℕ) → Own (rowFor rs b)
-own [] h b = tt
-own (r ∷ rs) h b = picked (eqb b (r .byte)) r (rowFor rs b) (h .0) (own rs (h .1) b)
 
 shapes-nums : (ns : List ℕ) → shapes (nums ns) ≡ numbers (length ns)
 shapes-nums [] = refl
@@ -58,12 +42,12 @@ made-fits k hs bytes e h =
 
 pub given-fits : (kind : ℕ) (words : List ℕ) → Bytes words → (e : Event) → givenOf kind words ≡ accepted e → Spellable e
 unfolding givenOf
-given-fits kind words h e m = go (rowFor kinds kind) (own kinds (refl, (refl, (refl, (refl, (refl, (refl, (refl, tt))))))) kind) m
+given-fits kind words h e m = go (rowFor kinds kind) refl m
   where
-    go : (x : Option Row) → Own x → ofRow x words ≡ accepted e → Spellable e
+    go : (x : Option KindRow) → rowFor kinds kind ≡ x → givenRow x words ≡ accepted e → Spellable e
     go none o m = absurd (let z : _≡_ {A = ℕ} 0 1 = cc in omega arith)
     go (some r) o m = by (eqb (length words) (length (r .shapes) * 4)) m
       where
         by : (t : Bool) → pick t (accepted (eventOf (r .kind) (wordsIn (length (r .shapes)) words))) (refused 5) ≡ accepted e → Spellable e
-        by true m = let same : eventOf (r .kind) (wordsIn (length (r .shapes)) words) ≡ e = cc in subst Spellable same (made-fits (r .kind) (r .shapes) words o h)
+        by true m = let same : eventOf (r .kind) (wordsIn (length (r .shapes)) words) ≡ e = cc in subst Spellable same (made-fits (r .kind) (r .shapes) words (ap (λ (q : KindRow). q .shapes) (own-row kind r o .0)) h)
         by false m = absurd (let z : _≡_ {A = ℕ} 0 1 = cc in omega arith)

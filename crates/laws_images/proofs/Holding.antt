@@ -1,13 +1,12 @@
 -- A state that holds what it may, and whose stamps have 32 bits, can be stored.
 use Prim.Native.Nat.{ℕ, _^_, _≤_, _<_}
 use mathlib.Core.Path.{_≡_, subst}
-use mathlib.Core.Bool.{true, _||_}
+use mathlib.Core.Bool.{true}
 use native.Mathlib.Omega.{arith}
-use lib.Dec.{eqb}
 use lib.IntN.{ℤ, pos, negsuc}
 use lib.Signed.{leZ}
 use Rattle.base.proofs.Tests.{and-iff, leb-iff, eqb-iff}
-use Rattle.state_parts.specs.Numbers.{phaseNumber}
+use Rattle.state_parts.specs.Stages.{inTrickle, inPrecharge, inFast}
 use Rattle.state_parts.specs.declared.cycle.Cycle.{Cycle}
 use Rattle.state_parts.specs.declared.phase.Phase.{Phase}
 use Rattle.state_parts.specs.declared.profile.Profile.{Profile}
@@ -15,10 +14,11 @@ use Rattle.state_parts.specs.declared.registers.Registers.{Registers}
 use Rattle.state_parts.specs.declared.sample.Sample.{Sample}
 use Rattle.state_parts.specs.declared.settings.Settings.{Settings}
 use Rattle.state_parts.specs.declared.watchdog.Watchdog.{Watchdog}
-use Rattle.log_event.specs.Ibat.{loggedOf}
+use Rattle.log_number.specs.Ibat.{loggedOf}
 use Rattle.state_fields.specs.Rows.{shownOf}
 use Rattle.state_fields.proofs.Bytes.{shown-byte}
 use Rattle.state_settings.specs.Kept.{settingsOk}
+use Rattle.state_settings.specs.Numbered.{settingNumbers}
 use Rattle.state_valid.specs.Holds.{profileOk, sampleOk, registersOk, cycleOk, watchdogOk}
 use Rattle.state_valid.proofs.Bounds.{profile-bounds, settings-bounds, sample-bounds, few-cells, dog-most, stages-apart, stage-below}
 use Rattle.state_valid.proofs.Wholes.{apart}
@@ -39,34 +39,35 @@ sample-fits x e h =
     let i = ibat-fits (x .ibat) (k .0 .0 .0 .1) (k .0 .0 .1) in
     fits (omega arith)
 
-byte-low : (a n : ℕ) → 0x15 ≤ a → a ≤ 0x1C → shownOf a n ≡ n → n < 256
-byte-low a n h k same = subst (λ (m : ℕ). m < 256) same (shown-byte a n h k)
+byte-low : (p : Profile) (a n : ℕ) → 0x15 ≤ a → a ≤ 0x1C → shownOf p a n ≡ n → n < 256
+byte-low p a n h k same = subst (λ (m : ℕ). m < 256) same (shown-byte p a n h k)
 
-stored : (g : Registers) → registersOk g ≡ true → Stored g
+stored : (p : Profile) (g : Registers) → registersOk p g ≡ true → Stored g
 unfolding registersOk
-stored g e =
+stored p g e =
     let k = simp (and-iff, eqb-iff) at e in
     record {
-      r15 = byte-low 0x15 (g .r15) (omega arith) (omega arith) (k .0 .0 .0 .0 .0 .0 .0);
-      r16 = byte-low 0x16 (g .r16) (omega arith) (omega arith) (k .0 .0 .0 .0 .0 .0 .1);
-      r17 = byte-low 0x17 (g .r17) (omega arith) (omega arith) (k .0 .0 .0 .0 .0 .1);
-      r18 = byte-low 0x18 (g .r18) (omega arith) (omega arith) (k .0 .0 .0 .0 .1);
-      r19 = byte-low 0x19 (g .r19) (omega arith) (omega arith) (k .0 .0 .0 .1);
-      r1a = byte-low 0x1A (g .r1a) (omega arith) (omega arith) (k .0 .0 .1);
+      r15 = byte-low p 0x15 (g .r15) (omega arith) (omega arith) (k .0 .0 .0 .0 .0 .0 .0);
+      r16 = byte-low p 0x16 (g .r16) (omega arith) (omega arith) (k .0 .0 .0 .0 .0 .0 .1);
+      r17 = byte-low p 0x17 (g .r17) (omega arith) (omega arith) (k .0 .0 .0 .0 .0 .1);
+      r18 = byte-low p 0x18 (g .r18) (omega arith) (omega arith) (k .0 .0 .0 .0 .1);
+      r19 = byte-low p 0x19 (g .r19) (omega arith) (omega arith) (k .0 .0 .0 .1);
+      r1a = byte-low p 0x1A (g .r1a) (omega arith) (omega arith) (k .0 .0 .1);
     }
 
 profile-fits : (p : Profile) → profileOk p ≡ true → p .stamp < 2 ^ 32 → Fits (profileNumbers p)
 profile-fits p e h = let b = profile-bounds p e in fits (omega arith)
 
-settings-fit : (s : Settings) → settingsOk s ≡ true → Fits (settingsNumbers s)
-settings-fit s e =
-    let b = settings-bounds s e in
+settings-fit : (p : Profile) (s : Settings) → settingsOk p s ≡ true → Fits (settingsNumbers s)
+unfolding settingNumbers
+settings-fit p s e =
+    let b = settings-bounds p s e in
     fits (omega (arith, bit-fits (s .enchg), bit-fits (s .enterm), bit-fits (s .enhiz), bit-fits (s .enextilim), bit-fits (s .disstat)))
 
-registers-fit : (g : Registers) → registersOk g ≡ true → Fits (registersNumbers g)
-registers-fit g e =
-    let b = stored g e in
-    let c = few-cells g e in
+registers-fit : (p : Profile) (g : Registers) → registersOk p g ≡ true → Fits (registersNumbers g)
+registers-fit p g e =
+    let b = stored p g e in
+    let c = few-cells p g e in
     fits (omega (arith, bit-fits (g .vchgoverride), bit-fits (g .celloverride), bit-fits (g .ichgoverride)))
 
 -- a limit has at most 172,800 seconds
@@ -74,10 +75,9 @@ cycle-fits : (y : Cycle) (p : Profile) (phase : Phase) → profileOk p ≡ true 
 cycle-fits y p phase ok e =
     let b = profile-bounds p ok in
     let k = stages-apart y p phase e in
-    let n = phaseNumber phase in
-    let t = stage-below (p .trickle) (eqb n 1) (y .trickle) (k .trickle) in
-    let c = stage-below (p .precharge) (eqb n 2) (y .precharge) (k .precharge) in
-    let f = stage-below (p .fast) (eqb n 3 || eqb n 4) (y .fast) (k .fast) in
+    let t = stage-below (p .trickle) (inTrickle phase) (y .trickle) (k .trickle) in
+    let c = stage-below (p .precharge) (inPrecharge phase) (y .precharge) (k .precharge) in
+    let f = stage-below (p .fast) (inFast phase) (y .fast) (k .fast) in
     fits (omega (arith, bit-fits (y .done)))
 
 watchdog-fits : (w : Watchdog) (p : Profile) → profileOk p ≡ true → watchdogOk w p ≡ true → Fits (watchdogNumbers w)
@@ -88,10 +88,10 @@ valid-storable s ok h =
     let k = apart s ok in
     let numbers = all-fit s (record {
       profile = profile-fits (s .profile) (k .profile) (h .0);
-      settings = settings-fit (s .settings) (k .settings);
-      registers = registers-fit (s .registers) (k .registers);
+      settings = settings-fit (s .profile) (s .settings) (k .settings);
+      registers = registers-fit (s .profile) (s .registers) (k .registers);
       cycle = cycle-fits (s .cycle) (s .profile) (s .phase) (k .profile) (k .cycle);
       watchdog = watchdog-fits (s .watchdog) (s .profile) (k .profile) (k .watchdog);
       sample = sample-fits (s .sample) (k .sample) (h .1);
     }) in
-    (numbers, stored (s .registers) (k .registers))
+    (numbers, stored (s .profile) (s .registers) (k .registers))

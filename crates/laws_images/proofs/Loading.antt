@@ -11,8 +11,9 @@ use Rattle.base.specs.Told.{accepted, refused}
 use Rattle.log_number.specs.Promises.{Bytes}
 use Rattle.state_parts.specs.declared.state.Model.{Model}
 use Rattle.state_parts.specs.declared.state.Model.the-variants.{Off, On}
-use Rattle.log_event.proofs.Remaking.{signs}
+use Rattle.log_number.proofs.SignLaws.{signs}
 use Rattle.log_record.proofs.ItemLaws.{bytes-drop}
+use Rattle.state_settings.specs.Numbered.{settingNumbers}
 use Rattle.c_words.specs.Words.{bytesOf, wordAt, wordsIn}
 use Rattle.c_words.specs.Promises.{AllWords}
 use Rattle.c_words.specs.Same.{sameBytes}
@@ -61,7 +62,7 @@ module _ (all : List ℕ) (words : AllWords all) where
   byte i = omega arith
 
   made-fits : Fitting (stateFrom all)
-  unfolding stateFrom
+  unfolding stateFrom settingNumbers
   made-fits = record {
     profile = fits (word 0, (word 1, (word 2, (word 3, (word 4, (word 5, (word 6, (word 7, (word 8, (word 9, tt))))))))));
     settings = fits (word 10, (word 11, (word 12, (word 13, (word 14, (word 15, (word 16, (word 17, (bit 18, (bit 19, (bit 20, (bit 21, (bit 22, (word 23, tt))))))))))))));

@@ -39,6 +39,8 @@ use Rattle.step_kinds.specs.declared.change.Way.{Way}
 use Rattle.step_event.specs.Clock.{observedOf}
 use Rattle.step_event.specs.Steps.{observeOf, followedOf, movedOf, firstOf, changeOf, modelOk, seenOn, closedBy, turnedBy, stepOf}
 use Rattle.step_event.proofs.Keeps.{refused-leaves, accepted-passes}
+use Rattle.state_settings.specs.Numbered.{settingNumbers}
+use Rattle.c_list.specs.Places.{samplePlace}
 use Rattle.c_list.specs.Numbers.{stateNumbers}
 use Rattle.c_image.specs.Promises.{Storable}
 use Rattle.laws_images.specs.Promises.{Stamped, StepStorable}
@@ -108,11 +110,11 @@ powered p k = (k, k)
 module _ (s : State) (h : Stamped s) where
   sets : (number value : ℕ) → StampedBy (setOf s number value)
   unfolding setOf
-  sets number value = chosen (not (knownSetting number)) _ _ tt (chosen (not (mayHold number value)) _ _ tt h)
+  sets number value = chosen (not (knownSetting (s .profile) number)) _ _ tt (chosen (not (mayHold (s .profile) number value)) _ _ tt h)
 
   writes : (address byte : ℕ) → StampedBy (writtenOf s address byte)
   unfolding writtenOf writeOf
-  writes address byte = by (not (knownAddress address)) (not (leb byte 255)) (eqb address 0x16 && not (frequencyOk byte))
+  writes address byte = by (not (knownAddress address)) (not (leb byte 255)) (eqb address 0x16 && not (frequencyOk (s .profile) byte))
     where
       by : (unknown large bad : Bool)
           → StampedBy (afterWrite (pick unknown (refused 10) (pick large (refused 5) (pick bad (refused 11) (accepted (writtenTo s address byte))))))
@@ -163,9 +165,9 @@ unfolding stepOf turnedBy
 stamps m e h k = closed m (changeOf m (turnOf e)) h (changes m (turnOf e) h (spelled e k))
 
 stamped : (m : Model) → Storable m → StampedIn m
-unfolding stateNumbers
+unfolding stateNumbers settingNumbers
 stamped Off h = tt
-stamped (On s) h = (each (stateNumbers s) (h .0) 4, each (stateNumbers s) (h .0) 44)
+stamped (On s) h = (each (stateNumbers s) (h .0) 4, each (stateNumbers s) (h .0) samplePlace)
 
 valid : (m : Model) → modelOk m ≡ true → StampedIn m → Storable m
 unfolding modelOk

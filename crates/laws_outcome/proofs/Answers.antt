@@ -5,10 +5,10 @@ use native.Mathlib.Omega.{arith}
 use Rattle.base.specs.Refusals.{refusalNumber}
 use Rattle.base.proofs.Answers.{refusal-one}
 use mathlib.Core.Option.{Option, none, some}
-use Rattle.log_event.specs.Kinds.{Row, knownTold}
+use Rattle.log_event.specs.Kinds.{KindRow, knownTold}
 use Rattle.log_event.specs.declared.kinds.Kind as Kinds
 use Rattle.log_event.specs.declared.kinds.Known.the-variants.{Kind, Unknown}
-use Rattle.state_registers.specs.Reads.{readTold}
+use Rattle.state_registers.specs.Reads.{registerTold}
 use Rattle.state_registers.specs.Writes.{writeTold}
 use Rattle.state_registers.specs.declared.reading.ReadAnswer.the-variants as reading
 use Rattle.state_registers.specs.declared.writing.WriteAnswer.the-variants as writing
@@ -16,7 +16,7 @@ use Rattle.step_event.specs.Walks.{walkedTold}
 use Rattle.step_event.specs.declared.walking.Walked.the-variants.{Record, End, Unreadable}
 use Rattle.laws_outcome.specs.One.{Settled}
 
-abbrev kindIn : Kinds.Kind → Option Row → Kinds.Kind
+abbrev kindIn : Kinds.Kind → Option KindRow → Kinds.Kind
 kindIn other (some r) = r .kind
 kindIn other none = other
 
@@ -26,7 +26,7 @@ known-settled (Kind j) Unknown e = absurd (let z : _≡_ {A = ℕ} 0 1 = cc in o
 known-settled Unknown (Kind k) e = absurd (let z : _≡_ {A = ℕ} 0 1 = cc in omega arith)
 known-settled Unknown Unknown e = refl
 
-pub read-settled : Settled readTold
+pub read-settled : Settled registerTold
 read-settled (reading.Byte a) (reading.Byte b) e = cc
 read-settled (reading.Byte a) (reading.Refused r) e = absurd (let z : _≡_ {A = ℕ} 0 1 = cc in omega arith)
 read-settled (reading.Refused r) (reading.Byte b) e = absurd (let z : _≡_ {A = ℕ} 0 1 = cc in omega arith)

@@ -17,7 +17,7 @@ use Rattle.log_event.specs.Kinds.{kinds, knownTold, rowFor}
 use Rattle.log_event.specs.Events.{kindOf}
 use Rattle.log_event.specs.declared.Event.{Event}
 use Rattle.log_record.specs.Records.{readTold, recordAt, spellEvent}
-use Rattle.log_reader.specs.Readers.{startOf, nextOf, movedTo, restOf}
+use Rattle.log_reader.specs.Readers.{atTheStart, nextRecord, movedTo, readerRest}
 use Rattle.log_reader.specs.declared.LogReader.{LogReader}
 use Rattle.settle_all.specs.Settle.{settleOf}
 use Rattle.report_state.specs.Report.{reportOf}
@@ -63,10 +63,10 @@ pub record CodecCalls : Type 0 where
 
 -- the log reader. Of a part that is handed back, what can be seen is its bytes and its place in memory; the name under which the logic follows a reference is not.
 pub record ReaderCalls : Type 0 where
-  pub new : (log : RefT (List ℕ)) → One (Tells itself (startOf log))
-  pub next : (reader : LogReader) → One (Tells readTold (nextOf reader))
+  pub new : (log : RefT (List ℕ)) → One (Tells itself (atTheStart log))
+  pub next : (reader : LogReader) → One (Tells readTold (nextRecord reader))
   pub moved : (reader : LogReader) (place : ℕ) → One (Tells itself (movedTo reader place))
-  pub rest : (reader : LogReader) → One (Tells itself (restOf reader))
+  pub rest : (reader : LogReader) → One (Tells itself (readerRest reader))
 
 -- what `turn` promises
 abbrev pub Turned : List ℕ → Walk → Page → Type 0
@@ -77,8 +77,8 @@ pub record ModelCalls : Type 0 where
   pub settle : (s : State) (observed : Bool) → One (Tells itself (settleOf s observed))
   pub report : (s : State) → One (Tells itself (reportOf s))
   pub stat : (s : State) → One (Tells itself (statOf s))
-  pub read : (s : State) (address : ℕ) → One (Tells reads.readTold (reads.readOf s address))
-  pub read-register : (m : Model) (address : ℕ) → One (Tells reads.readTold (reads.readRegisterOf m address))
+  pub read : (s : State) (address : ℕ) → One (Tells reads.registerTold (reads.readOf s address))
+  pub read-register : (m : Model) (address : ℕ) → One (Tells reads.registerTold (reads.readRegisterOf m address))
   pub write : (s : State) (address byte : ℕ) → One (Tells writeTold (writeOf s address byte))
   pub reset : (s : State) → One (Tells itself (resetOf s))
   pub step : (m : Model) (e : Event) → One (Tells steppedTold (stepOf m e))
@@ -92,7 +92,7 @@ pub record ModelCalls : Type 0 where
 pub record LogsCalls : Type 0 where
   pub compare : (a b : List ℕ) → One (Tells comparedTold (compareOf kinds a b))
   pub compare-inputs : (a b : List ℕ) → One (Tells comparedTold (inputsOf kinds a b))
-  pub rest : (a b : RefT (List ℕ)) → One (Tells itself (logs.restOf a b))
+  pub rest : (a b : RefT (List ℕ)) → One (Tells itself (logs.lackedPart a b))
 
 -- images, and the firmware's calls: their outcome, the answer and all bytes that they may change, is one record
 pub record FirmwareCalls : Type 0 where

@@ -10,7 +10,7 @@ use Rattle.step_event.specs.Walks.{startWalk, walkOf, metBy}
 use Rattle.step_flags.specs.Edges.{edgesOf, seenOf}
 use Rattle.step_flags.specs.Expiry.{expiredOf}
 use Rattle.log_event.specs.Events.{eventOf}
-use Rattle.log_event.specs.Ibat.{signedOf}
+use Rattle.log_number.specs.Ibat.{signedOf}
 use Rattle.state_fields.specs.Rows.{shownOf, fieldsAt, takenOf, fields}
 use Rattle.settle_all.specs.Gather.{testsOf}
 use Rattle.settle_all.specs.Settle.{settleOf, forcedOf, settledOf}
@@ -33,7 +33,7 @@ use Rattle.log_record.specs.Records.{spellEvent, recordAt, readRecord}
 use Rattle.state_registers.specs.Reads.{byteAt}
 use Rattle.state_registers.specs.Resets.{resetOf, resetRegisters}
 use Rattle.state_registers.specs.Writes.{writeOf, writtenTo, recounted}
-use Rattle.state_fields.specs.Held.{withByte, storedAt, standsAt, fieldOf}
+use Rattle.state_fields.specs.Held.{withByte}
 use Rattle.laws_rows.specs.Rows.{rows, EveryRow}
 use Rattle.settle_permission.specs.Bits.{regulatedOf}
 use Rattle.settle_permission.specs.Ending.{endingOf}
@@ -48,5 +48,5 @@ use Rattle.state_start.specs.Values.{startState, startSettings, startVreg, star
 use Rattle.state_valid.specs.Holds.{stateOk, profileOk, registersOk, cycleOk, watchdogOk, sampleOk}
 
 pub every-row : EveryRow
-unfolding rows linesText wholeOf endText headedText spellEvent numberAt lineText numbersOf pageOf startWalk stepOf spellItems readNumber decimal walkOf heldOf reportOf firstOf stateOk movedOf readGroups decimalBy recordAt settingNumbers fastCurrent chargeVoltageOf inputLimitOf profileOk settingsOk registersOk cycleOk watchdogOk sampleOk setOf observeOf spell readRecord chargeClampOf shareOf baseOf inPack cutOf mayHold finishOf storeOf writeOf observedOf resetOf groups metBy packClampOf settleOf startState shownOf rangeOf edgesOf merged pulseOf writtenTo countedOf expiredOf clearedIf timesOf unitsOf startSettings resetRegisters lineOf readItems forcedOf latchesOf bandOf settledOf testsOf fieldsAt ranges seenOf recounted withByte storedAt standsAt fieldOf takenOf byteAt regulatedOf startVreg startIchg startVsysmin flagsNumber eventOf faultOf shortOf lowOf packOverOf cycleOf phaseOf permittedOf suspendsOf belowRecharge taperOf endingOf fields reachedOf signedOf belowShare clearsOf endsOf judgedOf restartsOf turnedBy changeOf followedOf writtenOf turnOf profileInRange sampleInRange seenOn
+unfolding rows linesText wholeOf endText headedText spellEvent numberAt lineText numbersOf pageOf startWalk stepOf spellItems readNumber decimal walkOf heldOf reportOf firstOf stateOk movedOf readGroups decimalBy recordAt settingNumbers fastCurrent chargeVoltageOf inputLimitOf profileOk settingsOk registersOk cycleOk watchdogOk sampleOk setOf observeOf spell readRecord chargeClampOf shareOf baseOf inPack cutOf mayHold finishOf storeOf writeOf observedOf resetOf groups metBy packClampOf settleOf startState shownOf rangeOf edgesOf merged pulseOf writtenTo countedOf expiredOf clearedIf timesOf unitsOf startSettings resetRegisters lineOf readItems forcedOf latchesOf bandOf settledOf testsOf fieldsAt ranges seenOf recounted withByte takenOf byteAt regulatedOf startVreg startIchg startVsysmin flagsNumber eventOf faultOf shortOf lowOf packOverOf cycleOf phaseOf permittedOf suspendsOf belowRecharge taperOf endingOf fields reachedOf signedOf belowShare clearsOf endsOf judgedOf restartsOf turnedBy changeOf followedOf writtenOf turnOf profileInRange sampleInRange seenOn
 every-row = (refl, (refl, (refl, (refl, (refl, (refl, (refl, (refl, (refl, (refl, tt))))))))))
