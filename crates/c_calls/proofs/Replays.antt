@@ -5,8 +5,8 @@ use mathlib.Core.List.{List}
 use lib.ListN.{length}
 use borrow.Author.Tests.{eq-eqb}
 use Rattle.state_parts.specs.declared.state.Model.{Model}
-use Rattle.step_replay.specs.Rests.{endedOf}
-use Rattle.step_replay.specs.declared.Ended.{Ended}
+use Rattle.step_event.specs.Rests.{endedOf}
+use Rattle.step_event.specs.declared.replaying.Ended.{Ended}
 use Rattle.c_image.specs.Images.{modelIn, loadedTold, savedIn}
 use Rattle.c_image.specs.declared.Loaded.{Loaded}
 use Rattle.c_image.specs.declared.Loaded.the-variants.{Held, NoImage}

@@ -4,8 +4,8 @@ use mathlib.Core.List.{List}
 use Rattle.base.specs.Told.{Told, accepted, refused}
 use Rattle.state_parts.specs.declared.state.Model.{Model}
 use Rattle.step_event.specs.declared.walking.Walk.{Walk}
-use Rattle.step_replay.specs.Rests.{endedOf}
-use Rattle.step_replay.specs.declared.Ended.{Ended}
+use Rattle.step_event.specs.Rests.{endedOf}
+use Rattle.step_event.specs.declared.replaying.Ended.{Ended}
 use Rattle.c_image.specs.Images.{imageOf, modelIn}
 use Rattle.c_calls.specs.Landing.{Left, left}
 use Rattle.c_calls.specs.declared.answer.Replayed.{Replayed}

@@ -4,6 +4,7 @@ ghost use Rattle.c_calls.specs.Landing.{left};
 ghost use Rattle.c_calls.specs.Replaying.{replayOf};
 use crate::answer::Replayed;
 use c_image::Loaded;
+use step_event::replaying;
 use step_event::walking::Walk;
 
 // Plays every record of a log from a place on.
@@ -25,7 +26,7 @@ pub extern "C" fn cheukdane_replay(image: &mut [u8], log: &[u8], place: usize) -
                 number: 0,
                 place,
             };
-            let ended = step_replay::replay(log, from);
+            let ended = replaying::replay(log, from);
             let after = ended.walk;
             let held = after.model;
             c_image::save(image, held);

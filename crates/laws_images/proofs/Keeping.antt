@@ -20,7 +20,7 @@ use Rattle.step_event.specs.Steps.{stepOf}
 use Rattle.step_event.specs.Pages.{StopTold, full, unreadable, pageOf}
 use Rattle.step_event.specs.Pages as page
 use Rattle.step_event.specs.declared.walking.Walk.{Walk}
-use Rattle.step_replay.specs.Rests.{restOf, endedBy, endedOf}
+use Rattle.step_event.specs.Rests.{restOf, endedBy, endedOf}
 use Rattle.step_event.proofs.Keeps.{refused-leaves}
 use Rattle.c_image.specs.Images.{modelIn, isLong}
 use Rattle.c_image.proofs.ImageLaws.{loads-back}

@@ -23,7 +23,7 @@ use Rattle.step_event.specs.declared.walking.Walk.{Walk}
 use Rattle.c_image.specs.Images.{modelIn, isLong}
 use Rattle.c_image.specs.Promises.{Storable}
 use Rattle.c_event.specs.Given.{givenOf}
-use Rattle.step_replay.specs.Rests.{restOf}
+use Rattle.step_event.specs.Rests.{restOf}
 use Rattle.c_calls.specs.Playing.{offOf, playOf, eventCallOf}
 use Rattle.c_calls.specs.Replaying.{walkFrom, replayOf}
 

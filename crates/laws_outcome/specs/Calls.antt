@@ -42,7 +42,7 @@ use Rattle.c_event.specs.Given.{givenTold, givenOf}
 use Rattle.c_image.specs.Images.{loadedTold, modelIn, isLong, savedIn}
 use Rattle.c_calls.specs.Playing.{offOf, playOf, eventCallOf}
 use Rattle.c_calls.specs.Replaying.{replayOf}
-use Rattle.step_replay.specs.Rests.{endedOf}
+use Rattle.step_event.specs.Rests.{endedOf}
 use Rattle.c_calls.specs.Showing.{reportCallOf, registerOf}
 use Rattle.c_calls.specs.Writing.{writeCallOf}
 use Rattle.c_calls.specs.Comparing.{compareCallOf}

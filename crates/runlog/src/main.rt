@@ -51,7 +51,7 @@ fn ended(w: Walk, stop: Stop) -> bool {
     }
 }
 
-// Runs a log of at most 65,536 bytes: 4,097 pages of 16 are enough (`EnoughPages`, crate `step_replay`).
+// Runs a log of at most 65,536 bytes: 4,097 pages of 16 are enough (`EnoughPages`, crate `step_event`).
 fn run(log: &[u8]) {
     let mut walk = walking::start();
     let mut turns: usize = 0;

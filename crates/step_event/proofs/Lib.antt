@@ -8,3 +8,5 @@ pub mod Keeps
 mod Walkings
 pub mod Turning
 pub mod Joining
+pub mod Moves
+pub mod Resting

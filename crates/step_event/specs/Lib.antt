@@ -5,3 +5,5 @@ pub mod Theorems
 pub mod Walks
 pub mod Pages
 pub mod Wholes
+pub mod Rests
+pub mod Replays
