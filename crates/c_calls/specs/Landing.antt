@@ -5,12 +5,15 @@ use mathlib.Core.List.{List, [], _∷_}
 use lib.Dec.{ltb, eqb}
 use Rattle.base.specs.Pick.{pick, bitOf}
 use Rattle.base.specs.Refusals.{refusalNumber}
+use Rattle.base.specs.Volts.{millivoltsOf}
 use Rattle.base.specs.Told.{Told, accepted, refused}
 use Rattle.base.specs.Writing.{put}
 use Rattle.state_parts.specs.Edges.{flagsNumber}
 use Rattle.state_parts.specs.declared.flags.Flags.{Flags}
+use Rattle.state_parts.specs.Numbers.{phaseNumber}
 use Rattle.state_parts.specs.declared.state.Model.{Model}
-use Rattle.report_state.specs.Lines.{lineOf}
+use Rattle.state_parts.specs.declared.state.Model.the-variants.{Off, On}
+use Rattle.report_state.specs.Report.{reportOf}
 use Rattle.step_kinds.specs.Answers.{Outcome}
 use Rattle.c_words.specs.Words.{bytesOf}
 use Rattle.c_image.specs.Images.{imageOf, modelIn}
@@ -51,11 +54,12 @@ abbrev pub readyTold : Ready → Told Model
 readyTold (ready.Model m) = accepted m
 readyTold (ready.Refused r) = refused (refusalNumber r)
 
--- "what an accepted event shows: phase, current, voltage, input limit, pulse, held flags, and the flags that the event handed back (kind 4)": the model's as in runlog's line
+-- "what an accepted event shows: phase, current, voltage, input limit, pulse, held flags, and the flags that the event handed back (kind 4)"
 unfoldable pub shownNumbers : Model → Bool → Flags → List ℕ
-shownNumbers m pulse handed =
-    let l = lineOf 0 0 0 (bitOf pulse) m in
-    l .phase ∷ l .current ∷ l .voltage ∷ l .limit ∷ l .pulse ∷ l .flags ∷ flagsNumber handed ∷ []
+shownNumbers Off pulse handed = 0 ∷ 0 ∷ 0 ∷ 0 ∷ bitOf pulse ∷ 0 ∷ flagsNumber handed ∷ []
+shownNumbers (On s) pulse handed =
+    let r = reportOf s in
+    phaseNumber (r .phase) ∷ r .current ∷ millivoltsOf (r .voltage) ∷ r .limit ∷ bitOf pulse ∷ flagsNumber (s .flags) ∷ flagsNumber handed ∷ []
 
 -- "Accepted: the image is the model after it and `shown` shows it." "A refusal leaves every lent byte as it was."
 unfoldable pub landOf : Outcome → List ℕ → List ℕ → Both ℕ

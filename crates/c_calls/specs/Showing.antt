@@ -2,13 +2,16 @@
 use Prim.Native.Nat.{ℕ}
 use mathlib.Core.List.{List, [], _∷_}
 use lib.ListN.{length}
+use Rattle.base.specs.Volts.{millivoltsOf}
 use Rattle.base.specs.Told.{Told, accepted, refused}
 use Rattle.base.specs.Writing.{put}
+use Rattle.state_parts.specs.Edges.{flagsNumber}
+use Rattle.state_parts.specs.Numbers.{phaseNumber}
 use Rattle.state_parts.specs.declared.state.State.{State}
 use Rattle.state_parts.specs.declared.state.Model.{Model}
 use Rattle.state_parts.specs.declared.state.Model.the-variants.{Off, On}
 use Rattle.state_registers.specs.Reads.{readRegisterOf}
-use Rattle.report_state.specs.Lines.{lineOf}
+use Rattle.report_state.specs.Report.{reportOf}
 use Rattle.report_state.specs.Stats.{statNumber, statOf}
 use Rattle.c_words.specs.Words.{bytesOf}
 use Rattle.c_image.specs.Images.{modelIn}
@@ -19,8 +22,8 @@ use Rattle.c_calls.specs.declared.answer.Byte.{Byte}
 -- "phase, current, voltage, input limit, held flags, and STAT (0 low, 1 blinking, 2 high)"
 unfoldable pub reportNumbers : State → List ℕ
 reportNumbers s =
-    let l = lineOf 0 0 0 0 (On s) in
-    l .phase ∷ l .current ∷ l .voltage ∷ l .limit ∷ l .flags ∷ statNumber (statOf s) ∷ []
+    let r = reportOf s in
+    phaseNumber (r .phase) ∷ r .current ∷ millivoltsOf (r .voltage) ∷ r .limit ∷ flagsNumber (s .flags) ∷ statNumber (statOf s) ∷ []
 
 -- "The report, the flags and STAT of the model as it stands; 6 before a power-on."
 abbrev pub reportReady : Told Model → List ℕ → Left Answer

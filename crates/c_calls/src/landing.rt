@@ -2,15 +2,19 @@
 ghost use mathlib.Core.Path.{_≡_};
 ghost use lib.ListN.{length};
 ghost use Rattle.step_kinds.specs.Answers.{steppedTold};
+ghost use Rattle.state_parts.specs.declared.state.Model.the-variants.{On};
 ghost use Rattle.c_calls.specs.Landing.{both, shownNumbers, landOf, readyTold, readyOf};
 use base::choice;
 use base::refusal;
 use base::refusal::Refusal;
+use base::volts;
 use c_image::Loaded;
-use report_state::line;
+use report_state::report;
 use state_parts::flags;
 use state_parts::flags::Flags;
+use state_parts::phase;
 use state_parts::state::Model;
+use state_parts::state::State;
 use step_kinds::answer::Stepped;
 
 // The model of an image, or why the call is refused before all else.
@@ -36,20 +40,21 @@ pub(crate) fn begin(image: &[u8], room: usize, wanted: usize) -> Ready
 // What an accepted event shows.
 type Shown = [u32; 7];
 
-fn shown_numbers(m: Model, pulse: bool, handed: Flags) -> Shown
-    ensures { λ r. ⌜ r ≡ shownNumbers m pulse handed ⌝ }
+fn shown_numbers(s: State, pulse: bool, handed: Flags) -> Shown
+    ensures { λ r. ⌜ r ≡ shownNumbers (On s) pulse handed ⌝ }
 {
-    let line = line::line_of(0, 0, 0, choice::bit(pulse), m);
+    let held = s.flags;
+    let told = report::report(s);
+    let at = told.phase;
+    let pack = told.voltage;
+    let current = told.current;
+    let limit = told.limit;
+    let phase = phase::number(at);
+    let voltage = volts::millivolts(pack);
+    let beat = choice::bit(pulse);
+    let flags = flags::number(held);
     let taken = flags::number(handed);
-    [
-        line.phase,
-        line.current,
-        line.voltage,
-        line.limit,
-        line.pulse,
-        line.flags,
-        taken,
-    ]
+    [phase, current, voltage, limit, beat, flags, taken]
 }
 
 // Leaves what an event came to in the image and the answer buffer: its number.
@@ -59,10 +64,9 @@ pub(crate) fn land(image: &mut [u8], shown: &mut [u8], stepped: Stepped) -> u32
 {
     match stepped {
         Stepped::Accepted(s, pulse, handed) => {
-            let model = Model::On(s);
-            let numbers = shown_numbers(model, pulse, handed);
+            let numbers = shown_numbers(s, pulse, handed);
             c_words::write(shown, &numbers);
-            c_image::save(image, model);
+            c_image::save(image, Model::On(s));
             0
         }
         Stepped::Refused(r, _, _) => refusal::number(r),

@@ -8,9 +8,12 @@ use crate::answer::Byte;
 use crate::landing;
 use crate::landing::Ready;
 use base::refusal;
+use base::volts;
 use c_image::Loaded;
-use report_state::line;
+use report_state::report;
 use report_state::stat;
+use state_parts::flags;
+use state_parts::phase;
 use state_parts::state::Model;
 use state_parts::state::State;
 use state_registers::reading;
@@ -22,16 +25,17 @@ type Report = [u32; 6];
 fn report_numbers(s: State) -> Report
     ensures { λ r. ⌜ r ≡ reportNumbers s ⌝ }
 {
-    let line = line::line_of(0, 0, 0, 0, Model::On(s));
+    let held = s.flags;
+    let told = report::report(s);
+    let at = told.phase;
+    let pack = told.voltage;
+    let current = told.current;
+    let limit = told.limit;
+    let phase = phase::number(at);
+    let voltage = volts::millivolts(pack);
+    let flags = flags::number(held);
     let stat = stat::number(stat::stat(s));
-    [
-        line.phase,
-        line.current,
-        line.voltage,
-        line.limit,
-        line.flags,
-        stat,
-    ]
+    [phase, current, voltage, limit, flags, stat]
 }
 
 // The report, the flags and STAT of the model as it stands.
