@@ -1,4 +1,4 @@
-//! Records a second, and instructions a record, of contenders
+//! Records a second, and nanoseconds and instructions a record, of contenders
 //! that do the same work: the library's `replay` and the reference with its
 //! model in memory play a log on a model; the library's `play` and the plain
 //! one besides load, test and save an image and show what they did for each
@@ -113,7 +113,7 @@ pub fn show() {
     let sampled = by_turns(CONTENDERS.map(|(_, play)| move || play_all(logs, play)));
     let each = counted_each();
     println!(
-        "{LOGS} logs of {RECORDS} records          best records/s      median   instructions/record"
+        "{LOGS} logs of {RECORDS} records          best records/s      median   best ns/record   median   instructions/record"
     );
     for ((name, _), (sampled, each)) in CONTENDERS.iter().zip(sampled.iter().zip(each)) {
         line(name, sampled, each);
@@ -129,7 +129,8 @@ pub fn show() {
 
 fn line(name: &str, sampled: &Sampled, each: u64) {
     let records = (LOGS as usize * RECORDS) as f64;
-    let [best, median] =
-        [sampled.best, sampled.median].map(|taken| (records / taken.as_secs_f64()) as u64);
-    println!("  {name:<30} {best:>14} {median:>11} {each:>21}");
+    let [best, median] = [sampled.best, sampled.median].map(|taken| taken.as_secs_f64());
+    let [a_second, by_median] = [best, median].map(|taken| (records / taken) as u64);
+    let [least, middle] = [best, median].map(|taken| taken * 1e9 / records);
+    println!("  {name:<30} {a_second:>14} {by_median:>11} {least:>16.1} {middle:>8.1} {each:>21}");
 }
