@@ -1,17 +1,18 @@
-//! Events a second, and instructions an event: the library's `replay` and the
-//! reference with its model in memory, which do the same work, a log played on
-//! a model; and the library's `play`, which besides loads, tests and saves an
-//! image and shows what it did for each record, beside the reference that does
-//! so.
+//! Records a second, and nanoseconds and instructions a record, of contenders
+//! that do the same work: the library's `replay` and the reference with its
+//! model in memory play a log on a model; the library's `play` and the plain
+//! one besides load, test and save an image and show what they did for each
+//! record. The tests' own `play`, with vectors, stands beside them.
 
 use crate::counted::instructions;
+use crate::plain;
 use crate::sampled::{by_turns, ratio, Sampled};
 use library::answers::Played;
 use library::layout::{IMAGE, SHOWN};
 use library::{calls, expected};
 use reference::generate::plausible_log;
 use reference::record::{Reader, Reading};
-use reference::{report, Model};
+use reference::Model;
 use std::env;
 use std::hint::black_box;
 use std::process::Stdio;
@@ -23,12 +24,17 @@ const RECORDS: usize = 2_000;
 type Player = fn(&[u8]) -> usize;
 
 /// What is measured, and what its line says.
-const CONTENDERS: [(&str, Player); 4] = [
+const CONTENDERS: [(&str, Player); 5] = [
     ("library, replay", replayed),
     ("reference, model in memory", in_memory),
     ("library, play over an image", |log| over_an_image(log, calls::play)),
-    ("reference, over an image", |log| over_an_image(log, expected::play)),
+    ("reference, plain play", |log| over_an_image(log, plain::play)),
+    ("reference, play of the tests", |log| over_an_image(log, expected::play)),
 ];
+
+/// Which of them are set against each other, and in what.
+const PAIRS: [(usize, usize, &str); 2] =
+    [(0, 1, "replay to the model in memory"), (2, 3, "play to the plain play")];
 
 /// A whole log in one call.
 fn replayed(log: &[u8]) -> usize {
@@ -54,14 +60,16 @@ fn over_an_image(log: &[u8], play: fn(&mut [u8], &[u8], usize, &mut [u8]) -> Pla
     }
 }
 
-/// The reference as it stands: the model stays in memory.
+/// The reference as it stands: the model stays in memory, and no report is
+/// made. It tests before each record that the model holds what it may; a replay
+/// does so once for many records.
 fn in_memory(log: &[u8]) -> usize {
     let mut reader = Reader::new(log);
     let mut model = Model::Off;
     let mut records = 0;
     while let Reading::Record { event, .. } = reader.read() {
         let step = model.step(&event);
-        black_box((step.pulse, step.handed, report(&step.model)));
+        black_box((step.pulse, step.handed));
         model = step.model;
         records += 1;
     }
@@ -93,20 +101,24 @@ fn counted(contender: &str) -> u64 {
     instructions(&this, &["once", contender], Stdio::null())
 }
 
+/// The instructions of each contender, a record.
+fn counted_each() -> [u64; CONTENDERS.len()] {
+    let making = counted("none");
+    std::array::from_fn(|number| (counted(&number.to_string()) - making) / (LOGS * RECORDS as u64))
+}
+
 /// Prints the table.
 pub fn show() {
     let logs = &logs();
     let sampled = by_turns(CONTENDERS.map(|(_, play)| move || play_all(logs, play)));
-    let making = counted("none");
-    let each =
-        ["0", "1", "2", "3"].map(|number| (counted(number) - making) / (LOGS * RECORDS as u64));
+    let each = counted_each();
     println!(
-        "{LOGS} logs of {RECORDS} records          best events/s      median   instructions/event"
+        "{LOGS} logs of {RECORDS} records          best records/s      median   best ns/record   median   instructions/record"
     );
     for ((name, _), (sampled, each)) in CONTENDERS.iter().zip(sampled.iter().zip(each)) {
         line(name, sampled, each);
     }
-    for (one, other, name) in [(0, 1, "replay"), (2, 3, "play over an image")] {
+    for (one, other, name) in PAIRS {
         println!(
             "library to the reference, {name}: {:.2} by best time, {:.2} by instructions",
             ratio(sampled[one].best, sampled[other].best),
@@ -116,8 +128,9 @@ pub fn show() {
 }
 
 fn line(name: &str, sampled: &Sampled, each: u64) {
-    let events = (LOGS as usize * RECORDS) as f64;
-    let [best, median] =
-        [sampled.best, sampled.median].map(|taken| (events / taken.as_secs_f64()) as u64);
-    println!("  {name:<30} {best:>13} {median:>11} {each:>20}");
+    let records = (LOGS as usize * RECORDS) as f64;
+    let [best, median] = [sampled.best, sampled.median].map(|taken| taken.as_secs_f64());
+    let [a_second, by_median] = [best, median].map(|taken| (records / taken) as u64);
+    let [least, middle] = [best, median].map(|taken| taken * 1e9 / records);
+    println!("  {name:<30} {a_second:>14} {by_median:>11} {least:>16.1} {middle:>8.1} {each:>21}");
 }

@@ -7,6 +7,8 @@ mod counted;
 mod events;
 mod frames;
 mod listing;
+mod plain;
+mod plain_words;
 mod programs;
 mod sampled;
 

@@ -71,9 +71,9 @@ pub fn show(ours: &Path, reference: &Path) {
         let whole = instructions(path, &[], long.open().into());
         (whole, whole - instructions(path, &[], empty.open().into()))
     });
-    println!("runlog, {MOST_INPUT} bytes, {records} records   best ms   median ms   instructions   less an empty log's");
-    line("runlog", &ours_time, counted[0]);
-    line("reference", &reference_time, counted[1]);
+    println!("runlog, {MOST_INPUT} bytes, {records} records   best ms   median ms   best ns/record   instructions   less an empty log's");
+    line("runlog", &ours_time, records, counted[0]);
+    line("reference", &reference_time, records, counted[1]);
     println!(
         "runlog to the reference: {:.2} by best time, {:.2} by instructions, {:.2} less an empty log's",
         ratio(ours_time.best, reference_time.best),
@@ -82,7 +82,8 @@ pub fn show(ours: &Path, reference: &Path) {
     );
 }
 
-fn line(name: &str, time: &Sampled, (whole, records): (u64, u64)) {
+fn line(name: &str, time: &Sampled, records: usize, (whole, of_records): (u64, u64)) {
     let [best, median] = [time.best, time.median].map(|taken| taken.as_secs_f64() * 1e3);
-    println!("  {name:<33} {best:>9.2} {median:>11.2} {whole:>14} {records:>21}");
+    let each = best * 1e6 / records as f64;
+    println!("  {name:<33} {best:>9.2} {median:>11.2} {each:>16.1} {whole:>14} {of_records:>21}");
 }
