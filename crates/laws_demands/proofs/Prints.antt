@@ -16,7 +16,7 @@ use Rattle.log_record.specs.Records.{Met, met, refused, end, recordAt}
 use Rattle.report_state.specs.Lines.{lineOf}
 use Rattle.report_state.specs.Report.{reportOf}
 use Rattle.step_event.specs.Steps.{stepOf}
-use Rattle.step_event.specs.Walks.{numberAfter, lineAt, metBy, metOf, afterRead, walkOf, startWalk}
+use Rattle.step_event.specs.Walks.{numberAfter, metBy, metOf, afterRead, walkOf, startWalk}
 use Rattle.step_event.specs.Pages.{Passed, passedBy, pageOf, wholeOf, endBy}
 use Rattle.step_event.specs.declared.walking.Walk.{Walk}
 use Rattle.step_kinds.specs.Answers.{Outcome}
@@ -64,7 +64,7 @@ one-more most bytes w ih (met e next) h =
     let count : numberAfter (w .number) + length (rest .events) ≡ w .number + suc (length (rest .events)) = omega arith in
     record {
       lines =
-          ap (λ l. lineAt (metOf w e next) ∷ l) (k .lines)
+          ap (λ l. metOf w e next .line ∷ l) (k .lines)
           ∙ lines-after e (stepOf (w .model) e) (w .number) (numberAfter (w .number)) (rest .events) up;
       last = k .last ∙ ap (λ n. n ∷ rest .code ∷ rest .offset ∷ []) count;
     }

@@ -67,8 +67,8 @@ fn state(s: State) {
 
 pub(crate) fn print(m: Met) {
     let handed = m.handed;
+    let number = m.line.number;
     let walk = m.walk;
-    let number = walk.number;
     let model = walk.model;
     match model {
         Model::Off => {}

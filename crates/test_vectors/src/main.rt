@@ -56,7 +56,7 @@ fn print_end(number: u32, code: u32, offset: usize) {
 // Prints a record that was met, its line or what is held after it.
 fn print_record(lines: bool, m: Met) {
     if lines {
-        print_line(walking::line_at(m));
+        print_line(m.line);
     } else {
         held::print(m);
     }
