@@ -28,7 +28,7 @@ use Rattle.step_turns.specs.declared.later.Later.the-variants.{Set, Write, Take
 use Rattle.laws_account.specs.Held.{profileOf, sampleOf, elapsed, wasReset, wasServed, expired, overridden, takes, cellsOf, byteOf}
 use Rattle.laws_account.specs.Valued.{givenBy, settingOf}
 use Rattle.laws_account.specs.Judged.{bandAt}
-use Rattle.laws_account.specs.Cycles.{Stage, trickle, precharge, fast, limitOf, heldIn, unitsOf, gave, isDone, wasDone, timeIn, timeFound, phaseAt}
+use Rattle.laws_account.specs.Cycles.{Stage, trickle, precharge, fast, limitOf, heldIn, unitsAfter, gave, isDone, wasDone, timeIn, timeFound, phaseAt}
 use Rattle.laws_account.specs.States.{numbered, settingsAt, registersAt, latchesAt, watchdogAt, cycleAt, flagsAt, stateBy, stateOf}
 use Rattle.laws_account.proofs.Choices.{added}
 use Rattle.laws_account.proofs.Dogs.{expired-is, counted-is, served-is, waits}
@@ -87,7 +87,7 @@ either-zero true = refl
 either-zero false = refl
 
 gave-none : (s : Stage) (r : Run) (e : Later) → elapsed (r ▸ e) ≡ 0 → gave phaseAt s (r ▸ e) ≡ 0
-unfolding gave unitsOf
+unfolding gave unitsAfter
 gave-none s r e z = rw (z, no-units (regulatedOf (sampleOf r))) (either-zero (counted s r))
 
 time-kept : (s : Stage) (r : Run) (e : Later) → wasReset (r ▸ e) ≡ false → elapsed (r ▸ e) ≡ 0 → timeIn phaseAt s r ≡ timeFound phaseAt s (r ▸ e)
@@ -110,11 +110,11 @@ cycle-kept r e n z = λ i. record {
 -- an observation's time goes to the stage held before it
 cycle-timed : (r : Run) (x : Sample)
     → timesOf (profileOf r) (phaseAt r) (clock.unitsOf (sampleOf r) (elapsedOf (sampleOf r .stamp) (x .stamp))) (cycleAt phaseAt r) ≡ cycleFound (r ▸ Observe x)
-unfolding timesOf clock.unitsOf unitsOf cycleAt timeFound gave elapsed wasReset wasDone
+unfolding timesOf clock.unitsOf unitsAfter cycleAt timeFound gave elapsed wasReset wasDone
 cycle-timed r x = λ i. record {
-  trickle = added (counted trickle r) (timeIn phaseAt trickle r) (unitsOf (sampleOf r) (elapsed (r ▸ Observe x))) i;
-  precharge = added (counted precharge r) (timeIn phaseAt precharge r) (unitsOf (sampleOf r) (elapsed (r ▸ Observe x))) i;
-  fast = added (counted fast r) (timeIn phaseAt fast r) (unitsOf (sampleOf r) (elapsed (r ▸ Observe x))) i;
+  trickle = added (counted trickle r) (timeIn phaseAt trickle r) (unitsAfter (sampleOf r) (elapsed (r ▸ Observe x))) i;
+  precharge = added (counted precharge r) (timeIn phaseAt precharge r) (unitsAfter (sampleOf r) (elapsed (r ▸ Observe x))) i;
+  fast = added (counted fast r) (timeIn phaseAt fast r) (unitsAfter (sampleOf r) (elapsed (r ▸ Observe x))) i;
   done = isDone phaseAt r;
 }
 

@@ -32,8 +32,8 @@ heldIn precharge = inPrecharge
 heldIn fast = inFast
 
 -- "two units per ms, one while the old sample shows any regulation"
-unfoldable pub unitsOf : Sample → ℕ → ℕ
-unitsOf old ms = pick (regulatedOf old) ms (ms * 2)
+unfoldable pub unitsAfter : Sample → ℕ → ℕ
+unitsAfter old ms = pick (regulatedOf old) ms (ms * 2)
 
 -- "A limit of s seconds is reached at 2,000s units; a limit 0 counts nothing."
 abbrev pub reaches : ℕ → ℕ → Bool
@@ -47,7 +47,7 @@ module _ (P : Run → Phase) where
   -- "1. Time since the last stamp goes to the stage held before it": what the last event gave a stage
   unfoldable pub gave : Stage → Run → ℕ
   gave s (powered p) = 0
-  gave s (r ▸ e) = pick (heldIn s (P r) && not (eqb (limitOf s (profileOf r)) 0)) (unitsOf (sampleOf r) (elapsed (r ▸ e))) 0
+  gave s (r ▸ e) = pick (heldIn s (P r) && not (eqb (limitOf s (profileOf r)) 0)) (unitsAfter (sampleOf r) (elapsed (r ▸ e))) 0
 
   -- done: phase 5 was reported, and since then neither a reset nor a phase but 5, 6 and 7, in which it is kept
   unfoldable pub isDone : Run → Bool

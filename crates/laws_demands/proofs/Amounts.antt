@@ -17,7 +17,7 @@ use Rattle.settle_bands.specs.Effect.{coolShare, warmShare}
 use Rattle.state_start.specs.Values.{startIchg, startSettings}
 use Rattle.state_settings.specs.Kept.{settingsOk}
 use Rattle.state_settings.specs.Numbered.{settingNumbers, heldOf}
-use Rattle.state_settings.specs.Ranges.{ranges, rangeOf}
+use Rattle.state_settings.specs.Ranges.{lastSetting, ranges, rangeOf}
 use Rattle.state_settings.proofs.Steps.{at-least}
 use Rattle.state_settings.proofs.Stores.{each-may}
 use Rattle.state_valid.specs.Holds.{profileOk}
@@ -46,9 +46,9 @@ unfolding stateBy
 profile-holds r h = holding r h .profile
 
 -- each setting is at least its range's low end
-setting-least : (p : Profile) (s : Settings) → settingsOk p s ≡ true → (n : ℕ) → 1 ≤ n → n ≤ 14 → rangeOf p n .low ≤ heldOf s n
+setting-least : (p : Profile) (s : Settings) → settingsOk p s ≡ true → (n : ℕ) → 1 ≤ n → n ≤ lastSetting → rangeOf p n .low ≤ heldOf s n
 unfolding settingsOk
-setting-least p s h n l u = at-least p n (heldOf s n) (each-may p s 14 n h l u)
+setting-least p s h n l u = at-least p n (heldOf s n) (each-may p s lastSetting n h l u)
 
 pub ichg-least : (r : Run) → Accepted r → 40 ≤ settingOf 2 r
 unfolding rangeOf ranges heldOf settingNumbers settingsAt

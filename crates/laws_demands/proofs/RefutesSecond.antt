@@ -57,7 +57,7 @@ use Rattle.step_event.specs.Steps.{stepOf, turnedBy, changeOf, firstOf, movedOf
 use Rattle.step_event.specs.Walks.{startWalk, walkOf, metBy}
 use Rattle.laws_account.specs.History.{count, since, sumAfter}
 use Rattle.laws_account.specs.Refused.{Past, none, some, refusalOf, nextOf, refusalIn}
-use Rattle.laws_account.specs.Cycles.{phaseAt, phasesOf, phaseBy, timeIn, isDone, fault, wasDone, chargeEnds, starts, gave, limitReached, limitFound, restarts, unitsOf as unitsOfHistory, timeFound}
+use Rattle.laws_account.specs.Cycles.{phaseAt, phasesOf, phaseBy, timeIn, isDone, fault, wasDone, chargeEnds, starts, gave, limitReached, limitFound, restarts, unitsAfter, timeFound}
 use Rattle.laws_account.specs.Flagged.{pulsed, handedBack, flagged, edge, wasTaken}
 use Rattle.laws_account.specs.Held.{cellsOf, profileOf, sampleOf, overridden, byteOf, unserved, expired, elapsed, wasReset, wasServed, wasObserved}
 use Rattle.laws_account.specs.Judged.{chargeVoltage, chargeClamp, bandAt, baseAt, packClamp, inputOk, inputOver, short, low, packOver, permitted, suspended, rechargeDue, tapering, vbat, inputGood, ending}
@@ -105,7 +105,7 @@ abbrev start : Past
 start = some on
 
 pub second-refuted : SecondRefuted
-unfolding outcomeOf stepOf reportAt currentAt voltageAt refusesAlways reportsZeros ignoresEvents worksOnce inventsTimes inventsCounts sameWrite scalesPrecharge timesAfter judgesCool printedBy refusalOf nextOf firstOf stateOk movedOf phaseAt settingOf fastAt chargeVoltage limitAt shareOf fastCurrent reportOf logFrom linesBy wholeOf stateBy profileOk settingsOk registersOk cycleOk watchdogOk sampleOk setOf observeOf phasesOf count chargeClamp bandAt baseAt inPack cellsOf profileOf chargeClampOf chargeVoltageOf inputLimitOf finishOf coolFirst settledOf testsOf lineBy pageOf startWalk settingsAt registersAt latchesAt cycleAt watchdogAt sampleOf flagsAt pulsed handedBack refusalIn mayHold storeOf writeOf observedOf resetOf phaseBy pinFault startValue overridden byteOf packClamp baseOf cutOf settleOf edgesOf merged pulseOf timesOf unitsOf bandOf cycleOf phaseOf permittedOf suspendsOf belowRecharge taperOf endingOf flagsNumber walkOf inputOk inputOver short low packOver timeIn isDone unserved flagged edge expired wasTaken elapsed startState heldOf shownOf rangeOf writtenTo countedOf expiredOf clearedIf startSettings resetRegisters permitted fault suspended wasDone rechargeDue chargeEnds tapering startVsysmin resetByte takenOf packClampOf forcedOf latchesOf seenOf regulatedOf clearsOf endsOf judgedOf faultOf reachedOf belowShare recordAt since vbat sumAfter starts gave wasReset wasServed inputGood limitReached settingNumbers fieldsAt ranges recounted withByte byteAt startVreg startIchg limitFound wasObserved ending shortOf lowOf packOverOf restartsOf readRecord restarts unitsOfHistory fields timeFound metBy lineOf readItems eventOf signedOf readNumber readGroups turnedBy changeOf followedOf writtenOf turnOf profileInRange sampleInRange seenOn
+unfolding outcomeOf stepOf reportAt currentAt voltageAt refusesAlways reportsZeros ignoresEvents worksOnce inventsTimes inventsCounts sameWrite scalesPrecharge timesAfter judgesCool printedBy refusalOf nextOf firstOf stateOk movedOf phaseAt settingOf fastAt chargeVoltage limitAt shareOf fastCurrent reportOf logFrom linesBy wholeOf stateBy profileOk settingsOk registersOk cycleOk watchdogOk sampleOk setOf observeOf phasesOf count chargeClamp bandAt baseAt inPack cellsOf profileOf chargeClampOf chargeVoltageOf inputLimitOf finishOf coolFirst settledOf testsOf lineBy pageOf startWalk settingsAt registersAt latchesAt cycleAt watchdogAt sampleOf flagsAt pulsed handedBack refusalIn mayHold storeOf writeOf observedOf resetOf phaseBy pinFault startValue overridden byteOf packClamp baseOf cutOf settleOf edgesOf merged pulseOf timesOf unitsOf bandOf cycleOf phaseOf permittedOf suspendsOf belowRecharge taperOf endingOf flagsNumber walkOf inputOk inputOver short low packOver timeIn isDone unserved flagged edge expired wasTaken elapsed startState heldOf shownOf rangeOf writtenTo countedOf expiredOf clearedIf startSettings resetRegisters permitted fault suspended wasDone rechargeDue chargeEnds tapering startVsysmin resetByte takenOf packClampOf forcedOf latchesOf seenOf regulatedOf clearsOf endsOf judgedOf faultOf reachedOf belowShare recordAt since vbat sumAfter starts gave wasReset wasServed inputGood limitReached settingNumbers fieldsAt ranges recounted withByte byteAt startVreg startIchg limitFound wasObserved ending shortOf lowOf packOverOf restartsOf readRecord restarts unitsAfter fields timeFound metBy lineOf readItems eventOf signedOf readNumber readGroups turnedBy changeOf followedOf writtenOf turnOf profileInRange sampleInRange seenOn
 second-refuted = record {
   refuses = λ r report run read write d.
       let z : refusalNumber r ≡ 0 = ap (λ (o : Outcome). o .number) (d .moves none tt (PowerOn paper)) in

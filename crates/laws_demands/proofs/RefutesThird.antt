@@ -40,12 +40,12 @@ use Rattle.step_kinds.specs.Answers.{Outcome}
 use Rattle.step_kinds.specs.Plain.{setOf, writtenOf}
 use Rattle.step_turns.specs.Ranges.{profileInRange, sampleInRange}
 use Rattle.step_turns.specs.Turns.{heldProfile, turnOf}
-use Rattle.step_event.specs.Clock.{observedOf, countedOf, clearedIf, timesOf, unitsOf as unitsOfCharger}
+use Rattle.step_event.specs.Clock.{observedOf, countedOf, clearedIf, timesOf, unitsAfter as unitsOf}
 use Rattle.step_event.specs.Steps.{stepOf, turnedBy, changeOf, firstOf, movedOf, followedOf, observeOf, seenOn}
 use Rattle.laws_account.specs.History.{Run, count, since, sumAfter}
 use Rattle.laws_account.specs.Refused.{Accepted, refusalIn, nextOf, pastOf}
 use Rattle.laws_account.specs.States.{stateOf, stateBy, settingsAt, registersAt, latchesAt, cycleAt, watchdogAt, flagsAt}
-use Rattle.laws_account.specs.Cycles.{phaseAt, phasesOf, timeIn, isDone, phaseBy, starts, gave, fault, wasDone, chargeEnds, restarts, unitsOf, limitFound, limitReached, timeFound}
+use Rattle.laws_account.specs.Cycles.{phaseAt, phasesOf, timeIn, isDone, phaseBy, starts, gave, fault, wasDone, chargeEnds, restarts, unitsAfter, limitFound, limitReached, timeFound}
 use Rattle.laws_account.specs.Flagged.{flagged, wasTaken, edge}
 use Rattle.laws_account.specs.Held.{elapsed, profileOf, sampleOf, byteOf, cellsOf, overridden, unserved, expired, wasReset, wasServed, wasObserved}
 use Rattle.laws_account.specs.Judged.{bandAt, inputOk, inputOver, short, low, packOver, vbat, baseAt, permitted, suspended, rechargeDue, tapering, packClamp, inputGood, ending, chargeVoltage}
@@ -74,7 +74,7 @@ unfolding ranBy worksOnce
 stays s t on next = ap (state s) (sym (ap (λ m. worksOnce m (Observe sampled) .model) on) ∙ next)
 
 pub third-refuted : ThirdRefuted
-unfolding reportOf refusalIn inventsTimes refusesAlways ignoresEvents reportsZeros ranBy fastCurrent chargeVoltageOf inputLimitOf stateBy phaseAt mayHold sampleOk elapsed stepOf chargeClampOf shareOf baseOf inPack cutOf profileOf settingsAt registersAt latchesAt cycleAt watchdogAt sampleOf bandAt flagsAt phasesOf count rangeOf firstOf stateOk movedOf packClampOf settingOf byteOf cellsOf overridden inputOk inputOver short low packOver timeIn isDone unserved flagged phaseBy ranges profileOk settingsOk registersOk cycleOk watchdogOk setOf observeOf resetByte takenOf expired since vbat belowShare baseAt sumAfter starts gave wasReset wasServed wasTaken permitted fault suspended wasDone rechargeDue chargeEnds tapering finishOf storeOf writeOf observedOf resetOf pinFault startValue fieldsAt packClamp restarts unitsOf edge inputGood limitFound wasObserved ending chargeVoltage settleOf startState heldOf shownOf edgesOf merged pulseOf writtenTo countedOf expiredOf clearedIf timesOf unitsOfCharger startSettings resetRegisters startVsysmin fields regulatedOf limitReached timeFound forcedOf latchesOf bandOf settledOf testsOf settingNumbers seenOf recounted withByte byteAt startVreg startIchg faultOf shortOf lowOf packOverOf cycleOf phaseOf permittedOf suspendsOf belowRecharge taperOf endingOf reachedOf clearsOf endsOf judgedOf restartsOf turnedBy changeOf followedOf writtenOf turnOf profileInRange sampleInRange seenOn pastOf nextOf
+unfolding reportOf refusalIn inventsTimes refusesAlways ignoresEvents reportsZeros ranBy fastCurrent chargeVoltageOf inputLimitOf stateBy phaseAt mayHold sampleOk elapsed stepOf chargeClampOf shareOf baseOf inPack cutOf profileOf settingsAt registersAt latchesAt cycleAt watchdogAt sampleOf bandAt flagsAt phasesOf count rangeOf firstOf stateOk movedOf packClampOf settingOf byteOf cellsOf overridden inputOk inputOver short low packOver timeIn isDone unserved flagged phaseBy ranges profileOk settingsOk registersOk cycleOk watchdogOk setOf observeOf resetByte takenOf expired since vbat belowShare baseAt sumAfter starts gave wasReset wasServed wasTaken permitted fault suspended wasDone rechargeDue chargeEnds tapering finishOf storeOf writeOf observedOf resetOf pinFault startValue fieldsAt packClamp restarts unitsAfter edge inputGood limitFound wasObserved ending chargeVoltage settleOf startState heldOf shownOf edgesOf merged pulseOf writtenTo countedOf expiredOf clearedIf timesOf unitsOf startSettings resetRegisters startVsysmin fields regulatedOf limitReached timeFound forcedOf latchesOf bandOf settledOf testsOf settingNumbers seenOf recounted withByte byteAt startVreg startIchg faultOf shortOf lowOf packOverOf cycleOf phaseOf permittedOf suspendsOf belowRecharge taperOf endingOf reachedOf clearsOf endsOf judgedOf restartsOf turnedBy changeOf followedOf writtenOf turnOf profileInRange sampleInRange seenOn pastOf nextOf
 third-refuted = record {
   refuses = λ r report d. differ 0 1 refl (ap (held (λ s. 1)) (d (PowerOn paper ∷ []) on refl .1));
   zeros = λ step d. let some = d firstEvents first refl .2 .charges .1 (charges first (refl, (refl, refl)) (omega arith)) in absurd (omega arith);

@@ -1,4 +1,4 @@
--- What is told settles the answers of the table of kinds, of registers and of a walk.
+-- What is told settles the answers of the table of kinds, of registers, of changes and of a walk.
 use Prim.Native.Nat.{ℕ}
 use mathlib.Core.Path.{_≡_, refl, ap}
 use native.Mathlib.Omega.{arith}
@@ -12,6 +12,13 @@ use Rattle.state_registers.specs.Reads.{registerTold}
 use Rattle.state_registers.specs.Writes.{writeTold}
 use Rattle.state_registers.specs.declared.reading.ReadAnswer.the-variants as reading
 use Rattle.state_registers.specs.declared.writing.WriteAnswer.the-variants as writing
+use Rattle.base.specs.Told.{Told, accepted, refused}
+use Rattle.state_parts.specs.declared.state.State.{State}
+use Rattle.step_kinds.specs.Changes.{Changed, changeTold}
+use Rattle.step_kinds.specs.declared.change.Way.{Way}
+use Rattle.step_kinds.specs.declared.change.Change.the-variants.{Made, Refused}
+use Rattle.step_event.specs.Pages.{stopTold}
+use Rattle.step_event.specs.declared.paging.Stop.the-variants as stop
 use Rattle.step_event.specs.Walks.{walkedTold}
 use Rattle.step_event.specs.declared.walking.Walked.the-variants.{Record, End, Unreadable}
 use Rattle.laws_outcome.specs.One.{Settled}
@@ -50,4 +57,35 @@ walk-settled (Unreadable r p m) End e = absurd (let z : _≡_ {A = ℕ} 0 1 = cc
 walk-settled (Unreadable r p m) (Unreadable s q n) e =
     let same : refusalNumber r ≡ refusalNumber s = cc in
     let refusal : r ≡ s = refusal-one r s same in
+    cc
+
+abbrev stateIn : State → Told Changed → State
+stateIn other (accepted c) = c .state
+stateIn other (refused n) = other
+
+abbrev wayIn : Way → Told Changed → Way
+wayIn other (accepted c) = c .way
+wayIn other (refused n) = other
+
+pub change-settled : Settled changeTold
+change-settled (Made s way) (Made t other) e =
+    let states : s ≡ t = ap (λ (c : Told Changed). stateIn s c) e in
+    let ways : way ≡ other = ap (λ (c : Told Changed). wayIn way c) e in
+    λ i. Made (states i) (ways i)
+change-settled (Made s way) (Refused r) e = absurd (let z : _≡_ {A = ℕ} 0 1 = cc in omega arith)
+change-settled (Refused r) (Made s way) e = absurd (let z : _≡_ {A = ℕ} 0 1 = cc in omega arith)
+change-settled (Refused r) (Refused q) e = let n : refusalNumber r ≡ refusalNumber q = cc in ap Refused (refusal-one r q n)
+
+pub stop-settled : Settled stopTold
+stop-settled stop.Full stop.Full e = refl
+stop-settled stop.Full stop.End e = absurd (let z : _≡_ {A = ℕ} 0 1 = cc in omega arith)
+stop-settled stop.Full (stop.Unreadable r p) e = absurd (let z : _≡_ {A = ℕ} 0 1 = cc in omega arith)
+stop-settled stop.End stop.Full e = absurd (let z : _≡_ {A = ℕ} 0 1 = cc in omega arith)
+stop-settled stop.End stop.End e = refl
+stop-settled stop.End (stop.Unreadable r p) e = absurd (let z : _≡_ {A = ℕ} 0 1 = cc in omega arith)
+stop-settled (stop.Unreadable r p) stop.Full e = absurd (let z : _≡_ {A = ℕ} 0 1 = cc in omega arith)
+stop-settled (stop.Unreadable r p) stop.End e = absurd (let z : _≡_ {A = ℕ} 0 1 = cc in omega arith)
+stop-settled (stop.Unreadable r p) (stop.Unreadable q t) e =
+    let same : refusalNumber r ≡ refusalNumber q = cc in
+    let refusal : r ≡ q = refusal-one r q same in
     cc

@@ -1,9 +1,9 @@
 -- An instance of the general theorem for each public call.
-use Prim.Native.Nat.{ℕ, _≤_}
+use Prim.Native.Nat.{ℕ, _-_, _≤_}
 use mathlib.Core.Path.{_≡_, sym, ap, _∙_}
-use mathlib.Core.List.{List}
+use mathlib.Core.List.{List, _++_}
 use native.Mathlib.Omega.{arith}
-use lib.ListN.{length}
+use lib.ListN.{length, drop, replicate, take-append-drop}
 use lib.Seq.{length-take-le}
 use Rattle.base.specs.Writing.{writtenTold, written, put}
 use Rattle.base.proofs.Answers.{written-one}
@@ -14,12 +14,12 @@ use Rattle.log_pairs.proofs.Answers.{compared-one}
 use Rattle.c_image.proofs.ImageLaws.{loaded-one}
 use Rattle.c_event.proofs.Answers.{given-one}
 use Rattle.laws_outcome.specs.One.{One, Tells, TellsBytes, itself}
-use Rattle.step_event.specs.Pages.{Passed, pageTold}
+use Rattle.step_event.specs.Pages.{Passed, pageTold, blankLine}
 use Rattle.step_event.specs.declared.walking.Walk.{Walk}
 use Rattle.step_event.specs.declared.paging.Page.{Page}
 use Rattle.laws_outcome.specs.Calls.{Turned, CodecCalls, ReaderCalls, ModelCalls, LogsCalls, FirmwareCalls, TextCalls}
 use Rattle.laws_outcome.proofs.Settling.{contract-settles, contract-settles-bytes, itself-settles}
-use Rattle.laws_outcome.proofs.Answers.{known-settled, read-settled, write-settled, walk-settled}
+use Rattle.laws_outcome.proofs.Answers.{known-settled, read-settled, write-settled, change-settled, stop-settled, walk-settled}
 
 -- a result that is what a definition gives
 plain : {A : Type 0} → (given : A) → One (Tells itself given)
@@ -37,10 +37,22 @@ bounded given bound a b p q = p .0 ∙ sym (q .0)
 count-told : (r : Page) → r .count ≤ 16 → length (r .lines) ≡ 16 → r .count ≡ length (pageTold r .lines)
 count-told r few room = sym (length-take-le (r .count) (r .lines) (omega (arith, room)))
 
-turned : (log : List ℕ) (from : Walk) (a b : Page) → Turned log from a → Turned log from b → (pageTold a ≡ pageTold b) × (a .count ≡ b .count)
+-- two pages whose room is blank and that are told alike are one
+turned : (log : List ℕ) (from : Walk) → One (Turned log from)
 turned log from a b p q =
     let same : pageTold a ≡ pageTold b = p .0 ∙ sym (q .0) in
-    (same, count-told a (p .1 .0) (p .1 .1) ∙ ap (λ (t : Passed). length (t .lines)) same ∙ sym (count-told b (q .1 .0) (q .1 .1)))
+    let counts : a .count ≡ b .count =
+    count-told a (p .1 .few) (p .1 .long) ∙ ap (λ (t : Passed). length (t .lines)) same ∙ sym (count-told b (q .1 .few) (q .1 .long)) in
+    let tails : drop (a .count) (a .lines) ≡ drop (b .count) (b .lines) =
+    p .1 .blank ∙ ap (λ (n : ℕ). replicate (16 - n) blankLine) counts ∙ sym (q .1 .blank) in
+    let lines : a .lines ≡ b .lines =
+    sym (take-append-drop (a .count) (a .lines)) ∙ (λ i. same i .lines ++ tails i) ∙ take-append-drop (b .count) (b .lines) in
+    λ i. record {
+      walk = same i .last;
+      stop = stop-settled (a .stop) (b .stop) (ap (λ (t : Passed). t .stop) same) i;
+      count = counts i;
+      lines = lines i;
+    }
 
 pub codec-calls : CodecCalls
 codec-calls =
@@ -76,11 +88,15 @@ model-calls =
       read-register = λ m address. contract-settles _ _ _ read-settled _;
       write = λ s address byte. contract-settles _ _ _ write-settled _;
       reset = λ s. plain _;
+      opened = λ p. contract-settles _ _ _ change-settled _;
+      set = λ s number value. contract-settles _ _ _ change-settled _;
+      write-event = λ s address byte. contract-settles _ _ _ change-settled _;
+      finish = λ before written way. contract-settles _ _ _ step-once _;
       step = λ m e. contract-settles _ _ _ step-once _;
       walk = λ log w. contract-settles _ _ _ walk-settled _;
       start = plain _;
       replay = λ log from. plain _;
-      turn = λ log from a b. turned log from a b;
+      turn = turned;
     }
 
 pub logs-calls : LogsCalls

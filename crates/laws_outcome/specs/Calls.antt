@@ -10,13 +10,14 @@ use Rattle.base.specs.Stamps.{elapsedOf}
 use Rattle.base.specs.Units.{inPack}
 use Rattle.base.specs.Writing.{writtenTold, written, put}
 use Rattle.base.specs.declared.units.CellMv.{CellMv}
+use Rattle.state_parts.specs.declared.profile.Profile.{Profile}
 use Rattle.state_parts.specs.declared.state.State.{State}
 use Rattle.state_parts.specs.declared.state.Model.{Model}
-use Rattle.log_number.specs.Number.{numberTold, numberAt, spell}
+use Rattle.log_number.specs.Number.{numberTold, numberAt, spell, mostGroups}
 use Rattle.log_event.specs.Kinds.{kinds, knownTold, rowFor}
 use Rattle.log_event.specs.Events.{kindOf}
 use Rattle.log_event.specs.declared.Event.{Event}
-use Rattle.log_record.specs.Records.{readTold, recordAt, spellEvent}
+use Rattle.log_record.specs.Records.{readTold, recordAt, spellEvent, mostBytes}
 use Rattle.log_reader.specs.Readers.{atTheStart, nextRecord, movedTo, readerRest}
 use Rattle.log_reader.specs.declared.LogReader.{LogReader}
 use Rattle.settle_all.specs.Settle.{settleOf}
@@ -25,10 +26,15 @@ use Rattle.report_state.specs.Stats.{statOf}
 use Rattle.state_registers.specs.Reads as reads
 use Rattle.state_registers.specs.Writes.{writeTold, writeOf}
 use Rattle.state_registers.specs.Resets.{resetOf}
+use Rattle.step_flags.specs.declared.between.Seen.{Seen}
 use Rattle.step_kinds.specs.Answers.{steppedTold}
+use Rattle.step_kinds.specs.Changes.{changeTold}
+use Rattle.step_kinds.specs.Finish.{finishOf}
+use Rattle.step_kinds.specs.Plain.{openedAs, setOf, writtenOf}
+use Rattle.step_kinds.specs.declared.change.Way.{Way}
 use Rattle.step_event.specs.Steps.{stepOf}
 use Rattle.step_event.specs.Walks.{walkedTold, walkOf, startWalk}
-use Rattle.step_event.specs.Pages.{pageTold, pageOf}
+use Rattle.step_event.specs.Pages.{pageTold, pageOf, Roomed}
 use Rattle.step_event.specs.declared.walking.Walk.{Walk}
 use Rattle.step_event.specs.declared.paging.Page.{Page}
 use Rattle.report_state.specs.declared.line.Line.{Line}
@@ -53,12 +59,12 @@ pub record CodecCalls : Type 0 where
   pub in-pack : (each : CellMv) (cells : ℕ) → One (Tells itself (inPack each cells))
   pub elapsed : (earlier later : ℕ) → One (Tells itself (elapsedOf earlier later))
   pub read-number : (log : List ℕ) (at : ℕ) → One (Tells numberTold (numberAt log at))
-  pub number-width : (n : ℕ) → One (λ (r : ℕ). (r ≡ length (spell n)) × (r ≤ 5))
+  pub number-width : (n : ℕ) → One (λ (r : ℕ). (r ≡ length (spell n)) × (r ≤ mostGroups))
   pub write-number : (n : ℕ) (part : List ℕ) → One (TellsBytes writtenTold (written (spell n) part) (put (spell n) part))
   pub kind : (e : Event) → One (Tells itself (kindOf e))
   pub kind-for : (first : ℕ) → One (Tells knownTold (rowFor kinds first))
   pub read-record : (log : List ℕ) (at : ℕ) → One (Tells readTold (recordAt kinds log at))
-  pub record-width : (e : Event) → One (λ (r : ℕ). (r ≡ length (spellEvent e)) × (r ≤ 51))
+  pub record-width : (e : Event) → One (λ (r : ℕ). (r ≡ length (spellEvent e)) × (r ≤ mostBytes))
   pub write-record : (e : Event) (part : List ℕ) → One (TellsBytes writtenTold (written (spellEvent e) part) (put (spellEvent e) part))
 
 -- the log reader. Of a part that is handed back, what can be seen is its bytes and its place in memory; the name under which the logic follows a reference is not.
@@ -70,7 +76,7 @@ pub record ReaderCalls : Type 0 where
 
 -- what `turn` promises
 abbrev pub Turned : List ℕ → Walk → Page → Type 0
-Turned log from r = (pageTold r ≡ pageOf 16 log from) × ((r .count ≤ 16) × (length (r .lines) ≡ 16))
+Turned log from r = (pageTold r ≡ pageOf 16 log from) × Roomed r
 
 -- the model
 pub record ModelCalls : Type 0 where
@@ -81,12 +87,15 @@ pub record ModelCalls : Type 0 where
   pub read-register : (m : Model) (address : ℕ) → One (Tells reads.registerTold (reads.readRegisterOf m address))
   pub write : (s : State) (address byte : ℕ) → One (Tells writeTold (writeOf s address byte))
   pub reset : (s : State) → One (Tells itself (resetOf s))
+  pub opened : (p : Profile) → One (Tells changeTold (openedAs p))
+  pub set : (s : State) (number value : ℕ) → One (Tells changeTold (setOf s number value))
+  pub write-event : (s : State) (address byte : ℕ) → One (Tells changeTold (writtenOf s address byte))
+  pub finish : (before : Seen) (written : State) (way : Way) → One (Tells steppedTold (finishOf before written way))
   pub step : (m : Model) (e : Event) → One (Tells steppedTold (stepOf m e))
   pub walk : (log : List ℕ) (w : Walk) → One (Tells walkedTold (walkOf log w))
   pub start : One (Tells itself startWalk)
   pub replay : (log : List ℕ) (from : Walk) → One (Tells itself (endedOf log from))
-  -- a page is an array of 16 lines of which the first `count` are told: an exception, since the lines behind them are room, and nothing is said of them
-  pub turn : (log : List ℕ) (from : Walk) (a b : Page) → Turned log from a → Turned log from b → (pageTold a ≡ pageTold b) × (a .count ≡ b .count)
+  pub turn : (log : List ℕ) (from : Walk) → One (Turned log from)
 
 -- two logs; a part that is handed back is seen as the reader's is
 pub record LogsCalls : Type 0 where

@@ -17,7 +17,7 @@ use Rattle.state_parts.specs.declared.state.Model.{Model}
 use Rattle.state_parts.specs.declared.state.Model.the-variants.{Off, On}
 use Rattle.log_event.specs.declared.Event.{Event}
 use Rattle.log_event.specs.declared.Event.the-variants.{PowerOn, Set, Write, TakeFlags, Observe, Service, Reset}
-use Rattle.state_settings.specs.Ranges.{knownSetting, mayHold}
+use Rattle.state_settings.specs.Ranges.{lastSetting, knownSetting, mayHold}
 use Rattle.state_valid.specs.Holds.{stateOk}
 use Rattle.step_turns.specs.Ranges.{profileInRange, sampleInRange}
 use Rattle.step_turns.specs.Turns.{heldProfile, heldSample, turnOf}
@@ -52,9 +52,9 @@ module _ (s : State) (ok : stateOk s ≡ true) where
   sets : (number value : ℕ) → Says (On s) (Set number value) (setOf s number value)
   unfolding setOf
   sets number value =
-      tests (On s) (Set number value) 8 (not (knownSetting (s .profile) number)) _ (λ out. no-setting s number value ok (refuted (knownSetting (s .profile) number) (among number 1 14) out))
+      tests (On s) (Set number value) 8 (not (knownSetting (s .profile) number)) _ (λ out. no-setting s number value ok (refuted (knownSetting (s .profile) number) (among number 1 lastSetting) out))
       (λ known.
-      let listed = among number 1 14 .0 (not-false (knownSetting (s .profile) number) known) in
+      let listed = among number 1 lastSetting .0 (not-false (knownSetting (s .profile) number) known) in
       tests (On s) (Set number value) 9 (not (mayHold (s .profile) number value)) _
       (λ out. bad-value s number value ok listed (refuted (mayHold (s .profile) number value) (value-in (s .profile) number value listed) out)) (λ _. inl refl))
 
@@ -154,9 +154,9 @@ rows-give (not-powered (Observe x) other) = either (sampleInRange x)
 rows-give (not-powered Service other) = refl
 rows-give (not-powered Reset other) = refl
 rows-give (too-far s x ok fits far) = simp (ok, sample-in x .1 fits, lt-ltb 3600000 (elapsedOf (s .sample .stamp) (x .stamp)) far)
-rows-give (no-setting s number value ok out) = simp (ok, failed (knownSetting (s .profile) number) (among number 1 14) out)
+rows-give (no-setting s number value ok out) = simp (ok, failed (knownSetting (s .profile) number) (among number 1 lastSetting) out)
 rows-give (bad-value s number value ok known out) =
-    simp (ok, among number 1 14 .1 known, failed (mayHold (s .profile) number value) (value-in (s .profile) number value known) out)
+    simp (ok, among number 1 lastSetting .1 known, failed (mayHold (s .profile) number value) (value-in (s .profile) number value known) out)
 rows-give (no-address s address byte ok out) = simp (ok, address-first s address byte (failed (knownAddress address) (among address 0x15 0x1C) out))
 rows-give (bad-frequency s byte ok small bad) = simp (ok, then-frequency s 0x16 byte refl (le-leb byte 255 small) (bad-frequency-is (s .profile) byte .1 bad))
 

@@ -13,7 +13,7 @@ use Rattle.state_fields.specs.Rows.{digitOf, fsw, frequencyOk}
 use Rattle.log_event.specs.declared.spelled.SpelledProfile.{SpelledProfile}
 use Rattle.log_event.specs.declared.spelled.SpelledSample.{SpelledSample}
 use Rattle.state_parts.specs.declared.profile.Profile.{Profile}
-use Rattle.state_settings.specs.Ranges.{rangeOf, knownSetting, mayHold}
+use Rattle.state_settings.specs.Ranges.{lastSetting, rangeOf, knownSetting, mayHold}
 use Rattle.step_turns.specs.Ranges.{profileInRange, sampleInRange}
 use Rattle.laws_step.specs.Rows.{Among, ProfileIn, SampleIn, ValueIn}
 
@@ -69,7 +69,7 @@ sample-in x = (
       simp (and-iff, leb-iff, leZ-iff) (((((k .input, k .pack), k .ibat .0), k .ibat .1), k .ts), k .bits),
 )
 
-pub value-in : (p : Profile) (number value : ℕ) → Among number 1 14 → (mayHold p number value ≡ true) ↔ ValueIn p number value
+pub value-in : (p : Profile) (number value : ℕ) → Among number 1 lastSetting → (mayHold p number value ≡ true) ↔ ValueIn p number value
 unfolding mayHold
 value-in p number value known =
     let r = rangeOf p number in (
@@ -78,7 +78,7 @@ value-in p number value known =
           let l = and-iff (leb (r .low) value && leb value (r .high)) (eqb (value % r .step) 0) .0 k in
           record { range = among value (r .low) (r .high) .0 (l .0); step = eqb-true (value % r .step) 0 (l .1) },
       λ k.
-          simp (among number 1 14 .1 known, among value (r .low) (r .high) .1 (k .range), eq-eqb (value % r .step) 0 (k .step)),
+          simp (among number 1 lastSetting .1 known, among value (r .low) (r .high) .1 (k .range), eq-eqb (value % r .step) 0 (k .step)),
     )
 
 -- "written 0 or 7"

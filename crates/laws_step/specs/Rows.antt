@@ -18,7 +18,7 @@ use Rattle.log_event.specs.declared.Event.the-variants.{PowerOn, Set, Write, Ob
 use Rattle.log_event.specs.declared.spelled.SpelledProfile.{SpelledProfile}
 use Rattle.log_event.specs.declared.spelled.SpelledSample.{SpelledSample}
 use Rattle.state_fields.specs.Rows.{digitOf, fsw}
-use Rattle.state_settings.specs.Ranges.{rangeOf}
+use Rattle.state_settings.specs.Ranges.{lastSetting, rangeOf}
 use Rattle.state_valid.specs.Holds.{stateOk}
 
 abbrev pub Among : ℕ → ℕ → ℕ → Type 0
@@ -60,9 +60,9 @@ pub data Row : ℕ → Model → Event → Type 0 where
   -- 7: "stamp more than 3,600,000 ms ahead"
   too-far : (s : State) (x : SpelledSample) → stateOk s ≡ true → SampleIn x → 3600000 < elapsedOf (s .sample .stamp) (x .stamp) → Row 7 (On s) (Observe x)
   -- 8: "setting number not 1-14"
-  no-setting : (s : State) (number value : ℕ) → stateOk s ≡ true → ¬ Among number 1 14 → Row 8 (On s) (Set number value)
+  no-setting : (s : State) (number value : ℕ) → stateOk s ≡ true → ¬ Among number 1 lastSetting → Row 8 (On s) (Set number value)
   -- 9: "setting value outside its range or off its step"
-  bad-value : (s : State) (number value : ℕ) → stateOk s ≡ true → Among number 1 14 → ¬ ValueIn (s .profile) number value → Row 9 (On s) (Set number value)
+  bad-value : (s : State) (number value : ℕ) → stateOk s ≡ true → Among number 1 lastSetting → ¬ ValueIn (s .profile) number value → Row 9 (On s) (Set number value)
   -- 10: "address not 0x15-0x1C"
   no-address : (s : State) (address byte : ℕ) → stateOk s ≡ true → ¬ Among address 0x15 0x1C → Row 10 (On s) (Write address byte)
   -- 11: "FSW (0x16 bits 2:0) written 0 or 7"

@@ -1,20 +1,25 @@
 -- Rules of the table of ranges, and the bounds that a value in a range keeps.
-use Prim.Native.Nat.{ℕ, _%_, _≤_, _<_}
+use Prim.Native.Nat.{ℕ, suc, _%_, _≤_, _<_}
 use mathlib.Core.Path.{_≡_, refl}
 use mathlib.Core.Bool.{true, _&&_}
 use lib.Dec.{leb, ltb, eqb}
-use lib.ListN.{getD}
+use lib.ListN.{getD, length}
 use native.Mathlib.Omega.{arith}
 use borrow.Author.Tests.{ltb-true, leb-true}
 use Rattle.base.proofs.Span.{tested}
 use Rattle.base.proofs.Tests.{and-iff}
 use Rattle.state_parts.specs.declared.profile.Profile.{Profile}
-use Rattle.state_settings.specs.Ranges.{range, ranges, rangeOf, knownSetting, inRange, mayHold}
+use Rattle.state_settings.specs.Ranges.{lastSetting, range, ranges, rangeOf, knownSetting, inRange, mayHold}
+
+-- the table has a row for each setting, and one at 0
+pub one-each : length ranges ≡ suc lastSetting
+unfolding ranges
+one-each = refl
 
 -- every row has a step
 pub some-step : (p : Profile) (number : ℕ) → 0 < rangeOf p number .step
 unfolding rangeOf ranges
-some-step p number = ltb-true 0 _ (tested (λ (k : ℕ). ltb 0 (getD ranges k (range 0 0 0) .step)) 0 15 (number % 15) refl (omega arith) (omega arith))
+some-step p number = ltb-true 0 _ (tested (λ (k : ℕ). ltb 0 (getD ranges k (range 0 0 0) .step)) 0 (suc lastSetting) (number % suc lastSetting) refl (omega arith) (omega arith))
 
 module _ (p : Profile) (number value : ℕ) (e : mayHold p number value ≡ true) where
   inside : inRange (rangeOf p number) value ≡ true

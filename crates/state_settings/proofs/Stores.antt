@@ -16,7 +16,7 @@ use Rattle.state_parts.specs.declared.profile.Profile.{Profile}
 use Rattle.state_parts.specs.declared.settings.Settings.{Settings}
 use Rattle.state_settings.specs.Kept.{holdsTo, settingsOk}
 use Rattle.state_settings.specs.Numbered.{settingNumbers, heldOf, storeOf}
-use Rattle.state_settings.specs.Ranges.{ranges, rangeOf, mayHold}
+use Rattle.state_settings.specs.Ranges.{lastSetting, ranges, rangeOf, mayHold}
 use Rattle.state_settings.proofs.Steps.{at-most}
 
 volts-held : (t : Bool) (v : ℕ) (p : PackMv) → millivoltsOf (pick t (packOf v) p) ≡ pick t v (millivoltsOf p)
@@ -44,10 +44,10 @@ module _ (p : Profile) (s : Settings) (n v : ℕ) (e : mayHold p n v ≡ true) w
       span (λ (m : ℕ). v ≤ rangeOf p m .high → v ≤ 1) 9 5 k (λ q. q, (λ q. q, (λ q. q, (λ q. q, (λ q. q, tt))))) h (omega arith) most)
 
   -- what each setting holds after a store
-  pub held-after : (m : ℕ) → 1 ≤ m → m ≤ 14 → heldOf (storeOf s n v) m ≡ pick (eqb n m) v (heldOf s m)
+  pub held-after : (m : ℕ) → 1 ≤ m → m ≤ lastSetting → heldOf (storeOf s n v) m ≡ pick (eqb n m) v (heldOf s m)
   unfolding heldOf settingNumbers storeOf
   held-after m h l =
-      span (λ (k : ℕ). heldOf (storeOf s n v) k ≡ pick (eqb n k) v (heldOf s k)) 1 14 m
+      span (λ (k : ℕ). heldOf (storeOf s n v) k ≡ pick (eqb n k) v (heldOf s k)) 1 lastSetting m
       (volts-held (eqb n 1) v (s .vreg), (refl, (refl, (refl, (refl, (volts-held (eqb n 6) v (s .vsysmin), (refl, (refl, (flag 9 (s .enchg) (omega arith) (omega arith), (flag 10 (s .enterm) (omega arith) (omega arith), (flag 11 (s .enhiz) (omega arith) (omega arith), (flag 12 (s .enextilim) (omega arith) (omega arith), (flag 13 (s .disstat) (omega arith) (omega arith), (refl, tt))))))))))))))
       h (omega arith)
 
@@ -55,7 +55,7 @@ module _ (p : Profile) (s : Settings) (n v : ℕ) (e : mayHold p n v ≡ true) w
   passes m true same h = subst (λ (k : ℕ). mayHold p k v ≡ true) (eqb-true n m same) e
   passes m false other h = h
 
-  up-to : (m : ℕ) → m ≤ 14 → holdsTo p s m ≡ true → holdsTo p (storeOf s n v) m ≡ true
+  up-to : (m : ℕ) → m ≤ lastSetting → holdsTo p s m ≡ true → holdsTo p (storeOf s n v) m ≡ true
   up-to zero l h = refl
   up-to (suc m) l h =
       let both = and-iff (holdsTo p s m) (mayHold p (suc m) (heldOf s (suc m))) .0 h in
@@ -66,7 +66,7 @@ module _ (p : Profile) (s : Settings) (n v : ℕ) (e : mayHold p n v ≡ true) w
 
   pub store-passes : settingsOk p s ≡ true → settingsOk p (storeOf s n v) ≡ true
   unfolding settingsOk
-  store-passes h = up-to 14 (omega arith) h
+  store-passes h = up-to lastSetting (omega arith) h
 
 -- each setting of settings that hold what they may
 pub each-may : (p : Profile) (s : Settings) (most m : ℕ) → holdsTo p s most ≡ true → 1 ≤ m → m ≤ most → mayHold p m (heldOf s m) ≡ true

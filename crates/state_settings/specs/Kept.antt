@@ -4,7 +4,7 @@ use mathlib.Core.Bool.{Bool, true, _&&_}
 use Rattle.state_parts.specs.declared.profile.Profile.{Profile}
 use Rattle.state_parts.specs.declared.settings.Settings.{Settings}
 use Rattle.state_settings.specs.Numbered.{heldOf}
-use Rattle.state_settings.specs.Ranges.{mayHold}
+use Rattle.state_settings.specs.Ranges.{lastSetting, mayHold}
 
 -- every setting up to a number holds what it may
 abbrev pub holdsTo : Profile → Settings → ℕ → Bool
@@ -12,4 +12,4 @@ holdsTo p s zero = true
 holdsTo p s (suc number) = holdsTo p s number && mayHold p (suc number) (heldOf s (suc number))
 
 unfoldable pub settingsOk : Profile → Settings → Bool
-settingsOk p s = holdsTo p s 14
+settingsOk p s = holdsTo p s lastSetting

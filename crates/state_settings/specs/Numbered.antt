@@ -1,10 +1,11 @@
 -- 01: "2 set | setting number, value". The settings by their numbers; a test is 1 or 0.
-use Prim.Native.Nat.{ℕ, _%_}
+use Prim.Native.Nat.{ℕ, suc, _%_}
 use mathlib.Core.List.{List, [], _∷_}
 use lib.ListN.{getD}
 use lib.Dec.{eqb}
 use Rattle.base.specs.Pick.{pick, bitOf}
 use Rattle.base.specs.Volts.{packOf, millivoltsOf}
+use Rattle.state_settings.specs.Ranges.{lastSetting}
 use Rattle.state_parts.specs.declared.settings.Settings.{Settings}
 
 -- each setting's number at its place, from 1
@@ -28,7 +29,7 @@ settingNumbers s =
     ∷ []
 
 unfoldable pub heldOf : Settings → ℕ → ℕ
-heldOf s number = getD (settingNumbers s) (number % 15) 0
+heldOf s number = getD (settingNumbers s) (number % suc lastSetting) 0
 
 -- the setting of this number takes the value, and no other changes
 unfoldable pub storeOf : Settings → ℕ → ℕ → Settings

@@ -1,5 +1,5 @@
 -- 01, "Settings (start values are house)": each setting's range and step, and "setting value outside its range or off its step" (9).
-use Prim.Native.Nat.{ℕ, _%_}
+use Prim.Native.Nat.{ℕ, suc, _%_}
 use mathlib.Core.Bool.{Bool, _&&_}
 use mathlib.Core.List.{List, [], _∷_}
 use lib.ListN.{getD}
@@ -10,9 +10,13 @@ use Rattle.state_settings.specs.declared.ranges.Range.{Range}
 abbrev pub range : ℕ → ℕ → ℕ → Range
 range low high step = record { low = low; high = high; step = step }
 
+-- the last setting's number: the table below has a row for each number up to it (`one-each`)
+abbrev pub lastSetting : ℕ
+lastSetting = 14
+
 -- "setting number not 1-14" (8)
 abbrev pub knownSetting : Profile → ℕ → Bool
-knownSetting p number = leb 1 number && leb number 14
+knownSetting p number = leb 1 number && leb number lastSetting
 
 -- a row for each setting at its number, low, high and step; nothing is in the range at 0
 unfoldable pub ranges : List Range
@@ -35,7 +39,7 @@ ranges =
     ∷ []
 
 unfoldable pub rangeOf : Profile → ℕ → Range
-rangeOf p number = getD ranges (number % 15) (range 0 0 0)
+rangeOf p number = getD ranges (number % suc lastSetting) (range 0 0 0)
 
 abbrev pub inRange : Range → ℕ → Bool
 inRange r value = leb (r .low) value && leb value (r .high) && eqb (value % r .step) 0

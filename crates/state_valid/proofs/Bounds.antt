@@ -17,7 +17,7 @@ use Rattle.state_parts.specs.declared.watchdog.Watchdog.{Watchdog}
 use Rattle.state_settings.specs.Kept.{settingsOk}
 use Rattle.state_valid.specs.Holds.{profileOk, sampleOk, registersOk, stageOk, cycleOk, watchdogOk}
 use Rattle.state_settings.specs.Numbered.{settingNumbers, heldOf}
-use Rattle.state_settings.specs.Ranges.{ranges, rangeOf}
+use Rattle.state_settings.specs.Ranges.{lastSetting, ranges, rangeOf}
 use Rattle.state_settings.proofs.Steps.{at-most}
 use Rattle.state_settings.proofs.Stores.{each-may}
 
@@ -82,7 +82,7 @@ pub record SettingsBounds (s : Settings) : Type 0 where
 pub settings-bounds : (p : Profile) (s : Settings) → settingsOk p s ≡ true → SettingsBounds s
 unfolding settingsOk heldOf settingNumbers rangeOf ranges
 settings-bounds p s e =
-    let most : (n : ℕ) → 1 ≤ n → n ≤ 14 → heldOf s n ≤ rangeOf p n .high = λ n h k. at-most p n (heldOf s n) (each-may p s 14 n e h k) in
+    let most : (n : ℕ) → 1 ≤ n → n ≤ lastSetting → heldOf s n ≤ rangeOf p n .high = λ n h k. at-most p n (heldOf s n) (each-may p s 14 n e h k) in
     record {
       vreg = most 1 (omega arith) (omega arith);
       ichg = most 2 (omega arith) (omega arith);
