@@ -19,8 +19,12 @@
  * buffer the first words are written and the bytes after them stay.
  *
  * Stack, in bytes along the deepest chain of calls, of the module's object code for aarch64 (`make bench` prints them
- * for the machine at hand): replay 3,808, play 3,424, event 3,328, report 1,264, register 1,024, compare 464, write
- * 176, off and rules none. No call calls itself.
+ * for the machine at hand). No call calls itself.
+ *
+ *     replay 2,112    play     1,728    event 1,632
+ *     report 1,264    register 1,024
+ *     compare  480    write      160
+ *     off        0    rules        0
  */
 #ifndef CHEUKDANE_H
 #define CHEUKDANE_H
