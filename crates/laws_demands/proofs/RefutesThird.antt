@@ -40,7 +40,7 @@ use Rattle.step_kinds.specs.Answers.{Outcome}
 use Rattle.step_kinds.specs.Plain.{setOf, writtenOf}
 use Rattle.step_turns.specs.Ranges.{profileInRange, sampleInRange}
 use Rattle.step_turns.specs.Turns.{heldProfile, turnOf}
-use Rattle.step_event.specs.Clock.{observedOf, countedOf, clearedIf, timesOf, unitsAfter as unitsOf}
+use Rattle.step_event.specs.Clock.{observedOf, countedOf, clearedIf, timesOf, unitsOf}
 use Rattle.step_event.specs.Steps.{stepOf, turnedBy, changeOf, firstOf, movedOf, followedOf, observeOf, seenOn}
 use Rattle.laws_account.specs.History.{Run, count, since, sumAfter}
 use Rattle.laws_account.specs.Refused.{Accepted, refusalIn, nextOf, pastOf}
