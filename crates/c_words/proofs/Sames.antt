@@ -12,7 +12,7 @@ use Rattle.base.proofs.Tests.{eqb-iff, and-iff}
 use Rattle.c_words.specs.Same.{sameBytes}
 use Rattle.c_words.specs.Words.{bytesOf, wordAt}
 use Rattle.c_words.specs.Promises.{SameTold}
-use Rattle.c_words.proofs.WordLaws.{length-bytes, four-of, word-back}
+use Rattle.c_words.proofs.WordLaws.{length-bytes, four-of, word-drop, word-next}
 
 same-head : (x y : ℕ) (xs ys : List ℕ) (rest : Bool) → (rest ≡ true → xs ≡ ys) → (eqb x y && rest) ≡ true → x ∷ xs ≡ y ∷ ys
 same-head x y xs ys rest ih e =
@@ -55,7 +55,7 @@ digits n a b c d ha hb hc hd e = (omega arith, omega arith, omega arith, omega a
 eqb-same : (n : ℕ) → eqb n n ≡ true
 eqb-same n = eq-eqb n n refl
 
-pub left-more : (all bytes : List ℕ) (i : ℕ) → ((k : ℕ) → getD bytes k 0 < 256) → i < length all → i * 4 + 4 ≤ length bytes → wordAt bytes (i * 4) ≡ getD all i 0
+left-more : (all bytes : List ℕ) (i : ℕ) → ((k : ℕ) → getD bytes k 0 < 256) → i < length all → i * 4 + 4 ≤ length bytes → wordAt bytes (i * 4) ≡ getD all i 0
     → sameBytes (bytesOf (drop i all)) (drop (i * 4) bytes) ≡ sameBytes (bytesOf (drop (i + 1) all)) (drop ((i + 1) * 4) bytes)
 unfolding sameBytes bytesOf wordAt
 left-more all bytes i known h l e =
@@ -65,13 +65,43 @@ left-more all bytes i known h l e =
     let one : i + 1 ≡ suc i = omega arith in
     rw (four, one, four-of bytes at l, drop-cons all i 0 h, d .0, d .1, d .2, d .3, eqb-same (getD bytes at 0), eqb-same (getD bytes (at + 1) 0), eqb-same (getD bytes (at + 2) 0), eqb-same (getD bytes (at + 3) 0))
 
-pub left-none : (all bytes : List ℕ) (i : ℕ) → length all ≤ i → length bytes ≤ i * 4 → true ≡ sameBytes (bytesOf (drop i all)) (drop (i * 4) bytes)
-unfolding sameBytes bytesOf
-left-none all bytes i ha hb = rw (drop-of-length-le all {i = i} ha, drop-of-length-le bytes {i = i * 4} hb)
+-- words are left that don't start with the one that is read
+left-other : (all bytes : List ℕ) (i : ℕ) → i < length all → getD all i 0 < 2 ^ 32 → eqb (wordAt bytes (i * 4)) (getD all i 0) ≡ false
+    → false ≡ sameBytes (bytesOf (drop i all)) (drop (i * 4) bytes)
+left-other all bytes i h small other =
+    differ (bytesOf (drop i all)) (drop (i * 4) bytes)
+    (λ e. false≢true (sym other ∙ eq-eqb (wordAt bytes (i * 4)) (getD all i 0) (sym (word-drop bytes (i * 4)) ∙ ap (λ l. wordAt l 0) (sym e) ∙ word-next all i h small)))
 
--- bytes of another length, and a word that isn't there
+left-word : (all bytes : List ℕ) (i : ℕ) → ((k : ℕ) → getD bytes k 0 < 256) → i < length all → getD all i 0 < 2 ^ 32 → i * 4 + 4 ≤ length bytes
+    → sameBytes (bytesOf (drop i all)) (drop (i * 4) bytes) ≡ (eqb (wordAt bytes (i * 4)) (getD all i 0) && sameBytes (bytesOf (drop (i + 1) all)) (drop ((i + 1) * 4) bytes))
+left-word all bytes i known h small l = go (eqb (wordAt bytes (i * 4)) (getD all i 0)) refl
+  where
+    go : (t : Bool) → eqb (wordAt bytes (i * 4)) (getD all i 0) ≡ t
+        → sameBytes (bytesOf (drop i all)) (drop (i * 4) bytes) ≡ (t && sameBytes (bytesOf (drop (i + 1) all)) (drop ((i + 1) * 4) bytes))
+    go true e = left-more all bytes i known h l (eqb-iff (wordAt bytes (i * 4)) (getD all i 0) .0 e)
+    go false e = sym (left-other all bytes i h small e)
+
+and-turn : (r w rest : Bool) → ((r && w) && rest) ≡ (r && (w && rest))
+and-turn true w rest = refl
+and-turn false w rest = refl
+
+-- one word more is compared
+pub left-turn : (all bytes : List ℕ) (i w : ℕ) (r : Bool) → ((k : ℕ) → getD bytes k 0 < 256) → i < length all → getD all i 0 < 2 ^ 32 → i * 4 + 4 ≤ length bytes → w ≡ wordAt bytes (i * 4)
+    → ((r && eqb w (getD all i 0)) && sameBytes (bytesOf (drop (i + 1) all)) (drop ((i + 1) * 4) bytes)) ≡ (r && sameBytes (bytesOf (drop i all)) (drop (i * 4) bytes))
+left-turn all bytes i w r known h small l e =
+    ap (λ n. (r && eqb n (getD all i 0)) && sameBytes (bytesOf (drop (i + 1) all)) (drop ((i + 1) * 4) bytes)) e
+    ∙ and-turn r (eqb (wordAt bytes (i * 4)) (getD all i 0)) (sameBytes (bytesOf (drop (i + 1) all)) (drop ((i + 1) * 4) bytes))
+    ∙ ap (λ t. r && t) (sym (left-word all bytes i known h small l))
+
+and-true : (r t : Bool) → true ≡ t → r ≡ (r && t)
+and-true true t e = e
+and-true false t e = refl
+
+-- no word is left
+pub left-none : (all bytes : List ℕ) (i : ℕ) (r : Bool) → length all ≤ i → length bytes ≤ i * 4 → r ≡ (r && sameBytes (bytesOf (drop i all)) (drop (i * 4) bytes))
+unfolding sameBytes bytesOf
+left-none all bytes i r ha hb = and-true r _ (rw (drop-of-length-le all {i = i} ha, drop-of-length-le bytes {i = i * 4} hb))
+
+-- bytes of another length
 pub other-length : (all bytes : List ℕ) → (length bytes ≡ length all * 4 → ⊥) → false ≡ sameBytes (bytesOf all) bytes
 other-length all bytes h = differ (bytesOf all) bytes (λ e. h (sym (ap length e) ∙ length-bytes all))
-
-pub left-differs : (all bytes : List ℕ) (i : ℕ) → i < length all → getD all i 0 < 2 ^ 32 → (wordAt bytes (i * 4) ≡ getD all i 0 → ⊥) → false ≡ sameBytes (bytesOf all) bytes
-left-differs all bytes i h small other = differ (bytesOf all) bytes (λ e. other (ap (λ l. wordAt l (i * 4)) (sym e) ∙ word-back all i h small))

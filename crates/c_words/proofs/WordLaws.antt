@@ -69,28 +69,11 @@ four-of s at h =
     let d : at + 4 ≡ suc (suc (suc (suc at))) = omega arith in
     rw (a, b, c, d) (drop-cons s at 0 (omega arith) ∙ ap (λ t. getD s at 0 ∷ t) (drop-cons s (suc at) 0 (omega arith) ∙ ap (λ t. getD s (suc at) 0 ∷ t) (drop-cons s (suc (suc at)) 0 (omega arith) ∙ ap (λ t. getD s (suc (suc at)) 0 ∷ t) (drop-cons s (suc (suc (suc at))) 0 (omega arith)))))
 
--- bytes after so many words are the bytes of the words after them
-four-less : (n i : ℕ) (s : List ℕ) → drop (suc i * 4) (wordBytes n ++ s) ≡ drop (i * 4) s
-four-less n i s = let e : suc i * 4 ≡ suc (suc (suc (suc (i * 4)))) = omega arith in rw e
-
-drop-none : (s : List ℕ) → drop (0 * 4) s ≡ s
-drop-none s = refl
-
-drop-nil : (i : ℕ) → drop {A = ℕ} i [] ≡ []
-drop-nil i = drop-of-length-le [] {i = i} (omega arith)
-
-drop-bytes : (ns : List ℕ) (i : ℕ) → drop (i * 4) (bytesOf ns) ≡ bytesOf (drop i ns)
-unfolding bytesOf
-drop-bytes ns zero = drop-none (bytesOf ns)
-drop-bytes [] (suc i) = drop-nil (suc i * 4)
-drop-bytes (n ∷ ns) (suc i) = four-less n i (bytesOf ns) ∙ drop-bytes ns i
-
 pub word-drop : (s : List ℕ) (k : ℕ) → wordAt (drop k s) 0 ≡ wordAt s k
 unfolding wordAt
 word-drop s k = rw (getD-drop k s 0 0, getD-drop k s 1 0, getD-drop k s 2 0, getD-drop k s 3 0, add-zero)
 
--- each word reads back from the bytes of all
-pub word-back : (ns : List ℕ) (i : ℕ) → i < length ns → getD ns i 0 < 2 ^ 32 → wordAt (bytesOf ns) (i * 4) ≡ getD ns i 0
+-- the next word reads back from the bytes of the words that are left
+pub word-next : (ns : List ℕ) (i : ℕ) → i < length ns → getD ns i 0 < 2 ^ 32 → wordAt (bytesOf (drop i ns)) 0 ≡ getD ns i 0
 unfolding bytesOf
-word-back ns i h small =
-    sym (word-drop (bytesOf ns) (i * 4)) ∙ ap (λ l. wordAt l 0) (drop-bytes ns i ∙ ap bytesOf (drop-cons ns i 0 h)) ∙ first-back (getD ns i 0) (bytesOf (drop (suc i) ns)) small
+word-next ns i h small = ap (λ l. wordAt (bytesOf l) 0) (drop-cons ns i 0 h) ∙ first-back (getD ns i 0) (bytesOf (drop (suc i) ns)) small

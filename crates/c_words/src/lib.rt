@@ -31,19 +31,24 @@ fn joined(first: u32, second: u32, third: u32, last: u32) -> u32
     first + second * 256 + third * 65536 + last * 16777216
 }
 
-// The word at a place. If all four bytes are there they are read at once, with no test for each.
+// The word at a place that has all four bytes: they are read with no test.
+fn whole(bytes: &[u8], at: usize) -> u32
+    requires { ⌜ at + 4 ≤ length (now bytes) ⌝ }
+    ensures { λ r. ⌜ r ≡ wordAt (now (bytes .entry)) at ⌝ }
+{
+    joined(
+        bytes[at] as u32,
+        bytes[at + 1] as u32,
+        bytes[at + 2] as u32,
+        bytes[at + 3] as u32,
+    )
+}
+
+// The word at a place.
 fn word(bytes: &[u8], at: usize) -> u32
     requires { ⌜ at + 4 < 2 ^ 64 ⌝ }
     ensures { λ r. ⌜ r ≡ wordAt (now (bytes .entry)) at ⌝ }
 {
-    if at + 4 <= bytes.len() {
-        return joined(
-            bytes[at] as u32,
-            bytes[at + 1] as u32,
-            bytes[at + 2] as u32,
-            bytes[at + 3] as u32,
-        );
-    }
     let first = byte(bytes, at);
     let second = byte(bytes, at + 1);
     let third = byte(bytes, at + 2);
@@ -51,14 +56,37 @@ fn word(bytes: &[u8], at: usize) -> u32
     joined(first, second, third, last)
 }
 
-// Reads as many words as `all` has room for, from the bytes' start on.
-pub fn read(bytes: &[u8], all: &mut [u32])
+// Reads words that are all there, with no test for each.
+fn read_whole(bytes: &[u8], all: &mut [u32])
+    requires { ⌜ length (now all) * 4 ≤ length (now bytes) ⌝ }
+    ensures { λ r. ⌜ now (all .exit) ≡ wordsIn (length (now (all .entry))) (now (bytes .entry)) ⌝ }
+{
+    let mut i: usize = 0;
+    while i < all.len() {
+        all[i] = whole(bytes, i * 4);
+        i += 1;
+    }
+}
+
+// Reads words that may run past the bytes' end.
+fn read_past(bytes: &[u8], all: &mut [u32])
     ensures { λ r. ⌜ now (all .exit) ≡ wordsIn (length (now (all .entry))) (now (bytes .entry)) ⌝ }
 {
     let mut i: usize = 0;
     while i < all.len() {
         all[i] = word(bytes, i * 4);
         i += 1;
+    }
+}
+
+// Reads as many words as `all` has room for, from the bytes' start on.
+pub fn read(bytes: &[u8], all: &mut [u32])
+    ensures { λ r. ⌜ now (all .exit) ≡ wordsIn (length (now (all .entry))) (now (bytes .entry)) ⌝ }
+{
+    if all.len() <= bytes.len() / 4 {
+        read_whole(bytes, all)
+    } else {
+        read_past(bytes, all)
     }
 }
 

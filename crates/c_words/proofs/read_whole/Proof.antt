@@ -1,12 +1,12 @@
--- `read` meets its contract: what is stored and what is left to store come to all the words.
+-- `read_whole` meets its contract: what is stored and what is left to store come to all the words.
 use Prim.Native.Nat.{_+_, _-_, _*_, _^_, _≤_}
 use mathlib.Core.Path.{_≡_, refl, _∙_}
 use native.Mathlib.Omega.{arith}
 use lib.ListN.{length, length-set}
 use lib.Seq.{sets}
 use Rattle.c_words.proofs.Turns.{toRead, read-more, read-none}
-use Rattle.c_words.proofs.read.Statement.{statement}
-use Rattle.c_words.proofs.read.Tie as tie
+use Rattle.c_words.proofs.read_whole.Statement.{statement}
+use Rattle.c_words.proofs.read_whole.Tie as tie
 
 abbrev Inv-loop : tie.InvT-loop
 Inv-loop bytes all₀ i₀ all i =
@@ -23,7 +23,7 @@ loop-again : tie.Need-loop-again Inv-loop μ-loop
 loop-again c =
     let l = c .before .before in
     let a = l .before .before .before .args in
-    (rw (c .word .ensures) (read-more (a .bytes .now) (l .loop .all) (length (a .all .now)) (l .loop .i) (omega arith) ∙ l .loop .inv .0), simp length-set (l .loop .inv .1), omega arith)
+    (rw (c .whole .ensures) (read-more (a .bytes .now) (l .loop .all) (length (a .all .now)) (l .loop .i) (omega arith) ∙ l .loop .inv .0), simp length-set (l .loop .inv .1), omega arith)
 
 returns : tie.Need-returns Inv-loop μ-loop
 returns c =
@@ -31,15 +31,15 @@ returns c =
     let a = l .before .before .before .args in
     read-none (a .bytes .now) (l .loop .all) (a .all .now) (l .loop .i) (omega arith) (l .loop .inv .0)
 
-pub read-spec : {M : Type 1} → statement M
-read-spec =
+pub read-whole-spec : {M : Type 1} → statement M
+read-whole-spec =
     tie.close
     (tie.spec
     Inv-loop
     μ-loop
     (λ c. (refl, refl, omega arith))
     (λ c. omega (arith, far c))
-    (λ c κs. omega (arith, far c))
+    (λ c κs. omega arith)
     (λ c. omega (arith, far (c .before)))
     (λ c. omega arith)
     (λ c. omega (arith, far (c .before)))
