@@ -21,8 +21,8 @@
  * Stack, in bytes along the deepest chain of calls, of the module's object code for aarch64 (`make bench` prints them
  * for the machine at hand). No call calls itself.
  *
- *     replay 2,112    play     1,728    event 1,632
- *     report 1,264    register 1,024
+ *     replay 2,288    play     1,728    event 1,632
+ *     report 1,296    register 1,008
  *     compare  480    write      160
  *     off        0    rules        0
  */
