@@ -1,5 +1,5 @@
 # Two commands do everything: `make run` runs the paper's example log, `make test` proves and tests all of it.
-.PHONY: run runlog partlog test bench install docs-check
+.PHONY: run runlog partlog test deep bench install docs-check
 
 PREFIX ?= /usr/local
 
@@ -15,6 +15,10 @@ run: runlog
 
 test:
 	@scripts/test
+
+# The must-fail edits whose crate takes too long to prove again for each: some five minutes, not part of `make test`.
+deep:
+	@scripts/deep
 
 # The docs against the crates: names, the picture, the width of lines. A second; part of `make test`.
 docs-check:
