@@ -16,7 +16,7 @@ run: runlog
 test:
 	@scripts/test
 
-# The must-fail edits whose crate takes too long to prove again for each: some five minutes, not part of `make test`.
+# The must-fail edits that are too dear for `make test`: some five minutes.
 deep:
 	@scripts/deep
 
