@@ -17,10 +17,10 @@ use Rattle.log_record.specs.Records.{Met, met, end, recordAt}
 use Rattle.log_record.specs.Records as log
 use Rattle.log_record.specs.Promises.{Spellable}
 use Rattle.step_event.specs.Steps.{stepOf}
-use Rattle.step_event.specs.Pages.{StopTold, full, unreadable, pageOf}
+use Rattle.step_event.specs.Pages.{StopTold, full, unreadable, pageOf, restOf}
 use Rattle.step_event.specs.Pages as page
 use Rattle.step_event.specs.declared.walking.Walk.{Walk}
-use Rattle.step_event.specs.Rests.{restOf, endedBy, endedOf}
+use Rattle.step_event.specs.Rests.{endedBy, endedOf}
 use Rattle.step_event.proofs.Keeps.{refused-leaves}
 use Rattle.c_image.specs.Images.{modelIn, isLong}
 use Rattle.c_image.proofs.ImageLaws.{loads-back}
@@ -85,7 +85,7 @@ ended-model w (unreadable number place) = refl
 
 replay-kept : (image : List ℕ) (m : Model) → modelIn image ≡ accepted m → (bytes : List ℕ) → Bytes bytes → (place : ℕ)
     → modelIn (replayOf image bytes place .bytes) ≡ accepted (restOf bytes (walkFrom m place) .last .model)
-unfolding replayOf endedOf restOf
+unfolding replayOf endedOf
 replay-kept image m loads bytes h place =
     let w = walkFrom m place in
     let p = pageOf (suc (length bytes)) bytes w in

@@ -18,12 +18,11 @@ use Rattle.log_record.specs.Records as log
 use Rattle.log_record.specs.Promises.{Spellable}
 use Rattle.state_valid.specs.Holds.{stateOk}
 use Rattle.step_event.specs.Steps.{stepOf}
-use Rattle.step_event.specs.Pages.{pageOf}
+use Rattle.step_event.specs.Pages.{pageOf, restOf}
 use Rattle.step_event.specs.declared.walking.Walk.{Walk}
 use Rattle.c_image.specs.Images.{modelIn, isLong}
 use Rattle.c_image.specs.Promises.{Storable}
 use Rattle.c_event.specs.Given.{givenOf}
-use Rattle.step_event.specs.Rests.{restOf}
 use Rattle.c_calls.specs.Playing.{offOf, playOf, eventCallOf}
 use Rattle.c_calls.specs.Replaying.{walkFrom, replayOf}
 
