@@ -48,7 +48,7 @@ module _ (r : Run) where
       ∙ ap (λ q. currentIn q (trickleCurrent (profileOf r)) (settingOf 3 r) (fastAt r)) (stage-is phaseAt phase-keeps-rule r (held c))
       ∙ staged-current (short r) (low r) (tapering r) (trickleCurrent (profileOf r)) (settingOf 3 r) (fastAt r)
 
-  in-trickle : Charging r → Short r → current ≡ trickleCurrent (profileOf r)
+  in-trickle : Charging r → Short r → current ≡ 100
   in-trickle c s = amounts c ∙ ap (λ b. pick b (trickleCurrent (profileOf r)) (pick (low r) (settingOf 3 r) (fastAt r))) (short-means r .test s)
 
   unshort : Charging r → (Short r → ⊥) → current ≡ pick (low r) (settingOf 3 r) (fastAt r)

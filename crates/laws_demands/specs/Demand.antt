@@ -16,7 +16,7 @@ use Rattle.state_fields.specs.Rows.{jeitaIsetc, jeitaVset}
 use Rattle.settle_permission.specs.Bits.{ceHigh, hizHigh, shutdownOf}
 use Rattle.log_event.specs.declared.Event.{Event}
 use Rattle.report_state.specs.declared.answer.Report.{Report}
-use Rattle.report_state.specs.Report.{trickleCurrent, reportOf}
+use Rattle.report_state.specs.Report.{reportOf}
 use Rattle.step_kinds.specs.Answers.{Outcome}
 use Rattle.step_event.specs.Pages.{wholeOf}
 use Rattle.laws_account.specs.History.{Run}
@@ -84,7 +84,7 @@ pub record Third (r : Run) (q : Report) : Type 0 where
   -- "Charge current is reported above zero exactly when .."
   pub charges : (0 < q .current) ↔ Charging r
   -- "It is then 100 mA in trickle,"
-  pub trickle : Charging r → Short r → q .current ≡ trickleCurrent (profileOf r)
+  pub trickle : Charging r → Short r → q .current ≡ 100
   -- "the precharge setting in precharge,"
   pub precharge : Charging r → ¬ Short r → Low r → q .current ≡ settingOf 3 r
   -- "and otherwise no more than the charge setting, the pin clamp unless overridden, and the temperature band's share."
