@@ -12,7 +12,6 @@ use Rattle.base.specs.Told.{Told, accepted, refused}
 use Rattle.base.specs.Writing.{put}
 use Rattle.base.specs.declared.refusal.Refusal.{Refusal}
 use Rattle.base.specs.declared.refusal.Refusal.the-variants.{EndsInside, ZeroGroup, TooLarge, UnknownKind, OutOfRange, NotPowered, StampAhead, UnknownSetting, BadValue, UnknownAddress, BadFrequency, NoRoom, InputTooLong, LogsPart}
-use Rattle.state_parts.specs.declared.flags.Flags.{Flags}
 use Rattle.state_parts.specs.declared.state.State.{State}
 use Rattle.state_parts.specs.declared.state.Model.{Model}
 use Rattle.state_parts.specs.declared.state.Model.the-variants.{On}
@@ -66,7 +65,7 @@ some-number InputTooLong = refl
 some-number LogsPart = refl
 
 module _ (stepped : Stepped) (image shown : List ℕ) where
-  pub landed : (s : State) (pulse : Bool) (handed : Flags) (numbers saved left : List ℕ) → stepped ≡ Accepted s pulse handed → length image ≡ 216
+  pub landed : (s : State) (pulse : Bool) (handed : ℕ) (numbers saved left : List ℕ) → stepped ≡ Accepted s pulse handed → length image ≡ 216
       → numbers ≡ shownNumbers (On s) pulse handed → saved ≡ savedIn image (On s) → left ≡ put (bytesOf numbers) shown
       → both 0 saved left ≡ landOf (steppedTold stepped) image shown
   unfolding landOf savedIn

@@ -8,8 +8,6 @@ use Rattle.base.specs.Refusals.{refusalNumber}
 use Rattle.base.specs.Volts.{millivoltsOf}
 use Rattle.base.specs.Told.{Told, accepted, refused}
 use Rattle.base.specs.Writing.{put}
-use Rattle.state_parts.specs.Edges.{flagsNumber}
-use Rattle.state_parts.specs.declared.flags.Flags.{Flags}
 use Rattle.state_parts.specs.Numbers.{phaseNumber}
 use Rattle.state_parts.specs.declared.state.Model.{Model}
 use Rattle.state_parts.specs.declared.state.Model.the-variants.{Off, On}
@@ -55,11 +53,11 @@ readyTold (ready.Model m) = accepted m
 readyTold (ready.Refused r) = refused (refusalNumber r)
 
 -- "what an accepted event shows: phase, current, voltage, input limit, pulse, held flags, and the flags that the event handed back (kind 4)"
-unfoldable pub shownNumbers : Model → Bool → Flags → List ℕ
-shownNumbers Off pulse handed = 0 ∷ 0 ∷ 0 ∷ 0 ∷ bitOf pulse ∷ 0 ∷ flagsNumber handed ∷ []
+unfoldable pub shownNumbers : Model → Bool → ℕ → List ℕ
+shownNumbers Off pulse handed = 0 ∷ 0 ∷ 0 ∷ 0 ∷ bitOf pulse ∷ 0 ∷ handed ∷ []
 shownNumbers (On s) pulse handed =
     let r = reportOf s in
-    phaseNumber (r .phase) ∷ r .current ∷ millivoltsOf (r .voltage) ∷ r .limit ∷ bitOf pulse ∷ flagsNumber (s .flags) ∷ flagsNumber handed ∷ []
+    phaseNumber (r .phase) ∷ r .current ∷ millivoltsOf (r .voltage) ∷ r .limit ∷ bitOf pulse ∷ s .flags ∷ handed ∷ []
 
 -- "Accepted: the image is the model after it and `shown` shows it." "A refusal leaves every lent byte as it was."
 unfoldable pub landOf : Outcome → List ℕ → List ℕ → Both ℕ

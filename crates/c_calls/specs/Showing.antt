@@ -5,7 +5,6 @@ use lib.ListN.{length}
 use Rattle.base.specs.Volts.{millivoltsOf}
 use Rattle.base.specs.Told.{Told, accepted, refused}
 use Rattle.base.specs.Writing.{put}
-use Rattle.state_parts.specs.Edges.{flagsNumber}
 use Rattle.state_parts.specs.Numbers.{phaseNumber}
 use Rattle.state_parts.specs.declared.state.State.{State}
 use Rattle.state_parts.specs.declared.state.Model.{Model}
@@ -23,7 +22,7 @@ use Rattle.c_calls.specs.declared.answer.Byte.{Byte}
 unfoldable pub reportNumbers : State → List ℕ
 reportNumbers s =
     let r = reportOf s in
-    phaseNumber (r .phase) ∷ r .current ∷ millivoltsOf (r .voltage) ∷ r .limit ∷ flagsNumber (s .flags) ∷ statNumber (statOf s) ∷ []
+    phaseNumber (r .phase) ∷ r .current ∷ millivoltsOf (r .voltage) ∷ r .limit ∷ s .flags ∷ statNumber (statOf s) ∷ []
 
 -- "The report, the flags and STAT of the model as it stands; 6 before a power-on."
 abbrev pub reportReady : Told Model → List ℕ → Left Answer

@@ -10,8 +10,6 @@ use base::refusal::Refusal;
 use base::volts;
 use c_image::Loaded;
 use report_state::report;
-use state_parts::flags;
-use state_parts::flags::Flags;
 use state_parts::phase;
 use state_parts::state::Model;
 use state_parts::state::State;
@@ -40,10 +38,10 @@ pub(crate) fn begin(image: &[u8], room: usize, wanted: usize) -> Ready
 // What an accepted event shows.
 type Shown = [u32; 7];
 
-fn shown_numbers(s: State, pulse: bool, handed: Flags) -> Shown
+fn shown_numbers(s: State, pulse: bool, handed: u32) -> Shown
     ensures { λ r. ⌜ r ≡ shownNumbers (On s) pulse handed ⌝ }
 {
-    let held = s.flags;
+    let flags = s.flags;
     let told = report::report(s);
     let at = told.phase;
     let pack = told.voltage;
@@ -52,9 +50,7 @@ fn shown_numbers(s: State, pulse: bool, handed: Flags) -> Shown
     let phase = phase::number(at);
     let voltage = volts::millivolts(pack);
     let beat = choice::bit(pulse);
-    let flags = flags::number(held);
-    let taken = flags::number(handed);
-    [phase, current, voltage, limit, beat, flags, taken]
+    [phase, current, voltage, limit, beat, flags, handed]
 }
 
 // Leaves what an event came to in the image and the answer buffer: its number.

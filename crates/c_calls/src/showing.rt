@@ -12,7 +12,6 @@ use base::volts;
 use c_image::Loaded;
 use report_state::report;
 use report_state::stat;
-use state_parts::flags;
 use state_parts::phase;
 use state_parts::state::Model;
 use state_parts::state::State;
@@ -25,7 +24,7 @@ type Report = [u32; 6];
 fn report_numbers(s: State) -> Report
     ensures { λ r. ⌜ r ≡ reportNumbers s ⌝ }
 {
-    let held = s.flags;
+    let flags = s.flags;
     let told = report::report(s);
     let at = told.phase;
     let pack = told.voltage;
@@ -33,7 +32,6 @@ fn report_numbers(s: State) -> Report
     let limit = told.limit;
     let phase = phase::number(at);
     let voltage = volts::millivolts(pack);
-    let flags = flags::number(held);
     let stat = stat::number(stat::stat(s));
     [phase, current, voltage, limit, flags, stat]
 }

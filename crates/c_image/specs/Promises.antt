@@ -14,10 +14,10 @@ use Rattle.c_list.specs.Numbers.{stateNumbers}
 use Rattle.c_image.specs.Images.{zeros, imageFormat, imageOf, modelIn, loadedTold}
 use Rattle.c_image.specs.declared.Loaded.{Loaded}
 
--- every number of the model has 32 bits and every stored byte eight, as in every model of the program's
+-- every number of the model has 32 bits, every stored byte eight and the flags twelve
 abbrev pub Storable : Model → Type 0
 Storable Off = Unit {0}
-Storable (On s) = AllWords (stateNumbers s) × Stored (s .registers)
+Storable (On s) = AllWords (stateNumbers s) × Stored s
 
 -- load after save is the model
 abbrev pub LoadsBack : Type 0

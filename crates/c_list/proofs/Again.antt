@@ -1,7 +1,11 @@
 -- A state's numbers make the state again.
-use Prim.Native.Nat.{ℕ, _%_, _<_}
+use Prim.Native.Nat.{ℕ, _%_, _≤_, _<_}
 use mathlib.Core.Path.{_≡_, refl}
+use mathlib.Core.Bool.{Bool, true, false}
 use native.Mathlib.Omega.{arith}
+use lib.Dec.{eqb}
+use Rattle.base.specs.Pick.{bitOf}
+use Rattle.state_parts.specs.Edges.{allFlags}
 use Rattle.state_parts.specs.Numbers.{phaseNumber, bandNumber}
 use Rattle.state_parts.specs.declared.band.Band.{Band}
 use Rattle.state_parts.specs.declared.band.Band.the-variants.{Normal, Cold, Hot, Cool, Warm}
@@ -10,9 +14,16 @@ use Rattle.state_parts.specs.declared.phase.Phase.the-variants.{Idle, Trickle, 
 use Rattle.state_settings.specs.Numbered.{settingNumbers}
 use Rattle.log_number.proofs.SignLaws.{signs}
 use Rattle.c_list.specs.Numbers.{stateNumbers}
-use Rattle.c_list.specs.Back.{phaseFrom, bandFrom, stateFrom}
+use Rattle.c_list.specs.Back.{phaseFrom, bandFrom, flagsFrom, stateFrom}
 use Rattle.c_list.specs.Promises.{MadeAgain}
-use Rattle.c_list.proofs.FlagBits.{test-back, flags-back}
+
+-- a test's number says it again
+test-back : (t : Bool) → eqb (bitOf t) 1 ≡ t
+test-back true = refl
+test-back false = refl
+
+flags-back : (n : ℕ) → n ≤ allFlags → flagsFrom n ≡ n
+flags-back n h = omega (arith, h)
 
 phase-back : (p : Phase) → phaseFrom (phaseNumber p) ≡ p
 phase-back Idle = refl
@@ -48,7 +59,7 @@ made-again s h =
       signs .back (s .sample .ibat),
       phase-back (s .phase),
       band-back (s .band),
-      flags-back (s .flags),
+      flags-back (s .flags) (h .flags),
       test-back (s .settings .enchg),
       test-back (s .settings .enterm),
       test-back (s .settings .enhiz),

@@ -1,4 +1,3 @@
 -- The laws of the crate `c_list`.
 pub mod Lengths
-pub mod FlagBits
 pub mod Again

@@ -1,17 +1,17 @@
 -- The state that a list of numbers makes. Every list makes one; only a state's own numbers are its image (`Images`).
-use Prim.Native.Nat.{ℕ, _+_, _/_, _%_}
+use Prim.Native.Nat.{ℕ, suc, _+_, _%_}
 use mathlib.Core.Bool.{Bool}
 use mathlib.Core.List.{List, [], _∷_}
 use lib.ListN.{getD}
 use lib.Dec.{eqb}
 use Rattle.base.specs.Pick.{pick}
 use Rattle.base.specs.Volts.{packOf}
+use Rattle.state_parts.specs.Edges.{allFlags}
 use Rattle.state_parts.specs.Numbers.{phaseNumber, bandNumber}
 use Rattle.state_parts.specs.declared.band.Band.{Band}
 use Rattle.state_parts.specs.declared.band.Band.the-variants.{Normal, Cold, Hot, Cool, Warm}
 use Rattle.state_parts.specs.declared.phase.Phase.{Phase}
 use Rattle.state_parts.specs.declared.phase.Phase.the-variants.{Idle, Trickle, Precharge, Fast, Taper, Done, Suspended, Fault}
-use Rattle.state_parts.specs.declared.flags.Flags.{Flags}
 use Rattle.state_parts.specs.declared.profile.Profile.{Profile}
 use Rattle.state_parts.specs.declared.settings.Settings.{Settings}
 use Rattle.state_parts.specs.declared.registers.Registers.{Registers}
@@ -95,25 +95,9 @@ phaseFrom n = whose phaseNumber n (Idle ∷ Trickle ∷ Precharge ∷ Fast ∷ T
 abbrev pub bandFrom : ℕ → Band
 bandFrom n = whose bandNumber n (Normal ∷ Cold ∷ Hot ∷ Cool ∷ []) Warm
 
--- a number's bit of a weight
-abbrev bitAt : ℕ → ℕ → Bool
-bitAt n weight = eqb (n / weight % 2) 1
-
-unfoldable pub flagsFrom : ℕ → Flags
-flagsFrom n = record {
-  good = bitAt n 1;
-  lost = bitAt n 2;
-  iindpm = bitAt n 4;
-  vindpm = bitAt n 8;
-  thermal = bitAt n 16;
-  expired = bitAt n 32;
-  phase = bitAt n 64;
-  band = bitAt n 128;
-  inputover = bitAt n 256;
-  shutdown = bitAt n 512;
-  packover = bitAt n 1024;
-  limit = bitAt n 2048;
-}
+-- twelve flags at most
+abbrev pub flagsFrom : ℕ → ℕ
+flagsFrom n = n % suc allFlags
 
 unfoldable pub stateFrom : List ℕ → State
 stateFrom all = record {

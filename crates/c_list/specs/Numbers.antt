@@ -4,7 +4,6 @@ use mathlib.Core.Path.{_≡_}
 use mathlib.Core.List.{List, [], _∷_, _++_}
 use lib.ListN.{length, drop}
 use Rattle.base.specs.Pick.{bitOf}
-use Rattle.state_parts.specs.Edges.{flagsNumber}
 use Rattle.state_parts.specs.Numbers.{phaseNumber, bandNumber}
 use Rattle.state_parts.specs.declared.profile.Profile.{Profile}
 use Rattle.state_parts.specs.declared.settings.Settings.{Settings}
@@ -49,7 +48,7 @@ sampleNumbers x = x .stamp ∷ x .input ∷ x .pack ∷ loggedOf (x .ibat) ∷ x
 
 -- "0 to 7"; "0 normal, 1 cold, 2 hot, 3 cool, 4 warm"; "the held flags, bits 0 to 11"
 abbrev pub judgedNumbers : State → List ℕ
-judgedNumbers s = phaseNumber (s .phase) ∷ bandNumber (s .band) ∷ flagsNumber (s .flags) ∷ []
+judgedNumbers s = phaseNumber (s .phase) ∷ bandNumber (s .band) ∷ s .flags ∷ []
 
 unfoldable pub stateNumbers : State → List ℕ
 stateNumbers s =

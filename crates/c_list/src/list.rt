@@ -14,7 +14,6 @@ use base::volts;
 use log_number::ibat;
 use state_parts::band;
 use state_parts::cycle::Cycle;
-use state_parts::flags;
 use state_parts::latches::Latches;
 use state_parts::phase;
 use state_parts::profile::Profile;
@@ -128,11 +127,10 @@ fn with_judged(before: Numbers, s: State) -> Numbers
 {
     let at = s.phase;
     let band = s.band;
-    let held = s.flags;
     let mut all = before;
     all[PHASE] = phase::number(at);
     all[BAND] = band::number(band);
-    all[FLAGS] = flags::number(held);
+    all[FLAGS] = s.flags;
     all
 }
 

@@ -13,7 +13,6 @@ use base::volts;
 use log_number::ibat;
 use state_parts::band::Band;
 use state_parts::cycle::Cycle;
-use state_parts::flags::Flags;
 use state_parts::latches::Latches;
 use state_parts::phase::Phase;
 use state_parts::profile::Profile;
@@ -24,7 +23,7 @@ use state_parts::state::State;
 use state_parts::watchdog::Watchdog;
 ghost use mathlib.Core.Path.{_≡_};
 ghost use Rattle.c_list.specs.Places.{profilePlace, settingsPlace, registersPlace, latchesPlace, cyclePlace, samplePlace};
-ghost use Rattle.c_list.specs.Back.{profileFrom, settingsFrom, registersFrom, latchesFrom, cycleFrom, sampleFrom, phaseFrom, bandFrom, flagsFrom, stateFrom};
+ghost use Rattle.c_list.specs.Back.{profileFrom, settingsFrom, registersFrom, latchesFrom, cycleFrom, sampleFrom, phaseFrom, bandFrom, stateFrom};
 
 fn profile(all: Numbers) -> Profile
     ensures { λ r. ⌜ r ≡ profileFrom all profilePlace ⌝ }
@@ -149,26 +148,6 @@ fn band(n: u32) -> Band
     }
 }
 
-// The flags of a number, bit by bit.
-fn flags(n: u32) -> Flags
-    ensures { λ r. ⌜ r ≡ flagsFrom n ⌝ }
-{
-    Flags {
-        good: n / 1 % 2 == 1,
-        lost: n / 2 % 2 == 1,
-        iindpm: n / 4 % 2 == 1,
-        vindpm: n / 8 % 2 == 1,
-        thermal: n / 16 % 2 == 1,
-        expired: n / 32 % 2 == 1,
-        phase: n / 64 % 2 == 1,
-        band: n / 128 % 2 == 1,
-        inputover: n / 256 % 2 == 1,
-        shutdown: n / 512 % 2 == 1,
-        packover: n / 1024 % 2 == 1,
-        limit: n / 2048 % 2 == 1,
-    }
-}
-
 // The state that numbers make.
 pub fn made(all: Numbers) -> State
     ensures { λ r. ⌜ r ≡ stateFrom all ⌝ }
@@ -184,7 +163,7 @@ pub fn made(all: Numbers) -> State
     let sample = sample(all);
     let phase = phase(all[PHASE]);
     let band = band(all[BAND]);
-    let flags = flags(all[FLAGS]);
+    let flags = all[FLAGS] % 4096;
     State {
         profile,
         settings,

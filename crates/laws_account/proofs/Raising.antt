@@ -1,9 +1,11 @@
 -- The flags of a run: the edges of an event are the account's, and so are the flags that are held after it.
+use Prim.Native.Nat.{ℕ}
 use mathlib.Core.Path.{_≡_, refl, ap, _∙_}
 use mathlib.Core.Bool.{Bool, false, _||_}
-use Rattle.state_parts.specs.Edges.{merged, pulseOf, noFlags}
-use Rattle.state_parts.specs.declared.flags.Flags.{Flags}
+use Rattle.state_parts.specs.Edges.{flagsNumber, merged, pulseOf, noFlags}
+use Rattle.state_parts.specs.declared.flags.Edges.{Edges}
 use Rattle.state_parts.specs.declared.state.State.{State}
+use Rattle.state_parts.proofs.FlagLaws.{flags-join}
 use Rattle.settle_permission.specs.Limits.{reachedOf}
 use Rattle.state_parts.specs.With.{withFlags}
 use Rattle.state_parts.specs.declared.state.Model.the-variants.{On}
@@ -22,7 +24,7 @@ use Rattle.laws_account.specs.Valued.{settingOf}
 use Rattle.laws_account.specs.Judged.{inputGood}
 use Rattle.laws_account.specs.Cycles.{limitReached, phaseAt}
 use Rattle.laws_account.specs.Flagged as flag
-use Rattle.laws_account.specs.Flagged.{Flag, flagsBy, wasTaken, edge, flagged, handedBack, pulsed}
+use Rattle.laws_account.specs.Flagged.{Flag, edgesBy, flagsBy, wasTaken, edge, flagged, handedBack, pulsed}
 use Rattle.laws_account.specs.States.{settingsAt, latchesAt, cycleAt, flagsAt, stateBy, stateOf}
 use Rattle.laws_account.proofs.Choices.{or-swap}
 use Rattle.laws_account.proofs.Dogs.{expired-is}
@@ -30,8 +32,8 @@ use Rattle.laws_account.proofs.Found.{writtenBy, found, written-is}
 use Rattle.laws_account.proofs.Settling.{flaggedWith, settle-is}
 
 module _ (r : Run) (e : Later) where
-  abbrev pub edges : Flags
-  edges = flagsBy (λ k. edge phaseAt k (r ▸ e))
+  abbrev pub edges : Edges
+  edges = edgesBy (λ k. edge phaseAt k (r ▸ e))
 
   expires-is : begins (seenOf (stateOf r) .expired) (seenOf (flaggedWith (r ▸ e) (flagsAt phaseAt r)) .expired) ≡ edge phaseAt flag.expiry (r ▸ e)
   unfolding seenOf edge stateBy
@@ -55,7 +57,7 @@ module _ (r : Run) (e : Later) where
   }
 
   -- the flags that the event found and raised
-  abbrev pub all : Flags
+  abbrev pub all : ℕ
   all = merged (flagsAt phaseAt r) edges
 
   module _ (w : Way) where
@@ -92,8 +94,8 @@ module _ (r : Run) (e : Later) where
   held-after h k = rw h (or-swap (flagged phaseAt k r) (edge phaseAt k (r ▸ e)))
 
   flags-after : wasTaken (r ▸ e) ≡ false → all ≡ flagsAt phaseAt (r ▸ e)
-  unfolding merged flagsAt
-  flags-after h = λ i. flagsBy (λ k. held-after h k i)
+  unfolding flagsAt
+  flags-after h = flags-join (edgesBy (λ k. flagged phaseAt k r)) edges ∙ (λ i. flagsBy (λ k. held-after h k i))
 
   pub kept-is : wasTaken (r ▸ e) ≡ false → flaggedWith (r ▸ e) all ≡ stateOf (r ▸ e)
   unfolding stateBy
@@ -104,13 +106,14 @@ module _ (r : Run) (e : Later) where
   none-handed h k = rw h
 
   pub hands-none : wasTaken (r ▸ e) ≡ false → noFlags ≡ flagsBy (λ k. handedBack phaseAt k (r ▸ e))
+  unfolding flagsNumber
   hands-none h = λ i. flagsBy (λ k. none-handed h k i)
 
 -- taken flags are handed back, and none is held after it
 pub taken-is : (r : Run) → flaggedWith (r ▸ TakeFlags) noFlags ≡ stateOf (r ▸ TakeFlags)
-unfolding stateBy flagsAt flagged since wasTaken
+unfolding stateBy flagsAt flagged since wasTaken flagsNumber
 taken-is r = refl
 
 pub hands-held : (r : Run) → all r TakeFlags ≡ flagsBy (λ k. handedBack phaseAt k (r ▸ TakeFlags))
-unfolding merged flagsAt handedBack wasTaken
-hands-held r = refl
+unfolding flagsAt handedBack wasTaken
+hands-held r = flags-join (edgesBy (λ k. flagged phaseAt k r)) (edges r TakeFlags)

@@ -5,7 +5,6 @@ use mathlib.Core.Bool.{false, not, _&&_, _||_}
 use lib.Dec.{leb, ltb, eqb}
 use Rattle.base.specs.Pick.{pick}
 use Rattle.state_parts.specs.Numbers.{phaseNumber}
-use Rattle.state_parts.specs.declared.flags.Flags.{Flags}
 use Rattle.state_parts.specs.declared.profile.Profile.{Profile}
 use Rattle.state_parts.specs.declared.state.State.{State}
 use Rattle.settle_bands.specs.Thresholds.{bandOf}
@@ -29,7 +28,7 @@ use Rattle.laws_account.proofs.Found.{cycleFound, found}
 use Rattle.laws_account.proofs.Judging.{ready, forced-is, latches-are, band-is, testsAt, tests-are, not-both}
 
 -- a run's state with these flags
-abbrev pub flaggedWith : Run → Flags → State
+abbrev pub flaggedWith : Run → ℕ → State
 flaggedWith r flags = record {
   profile = profileOf r;
   settings = settingsAt r;

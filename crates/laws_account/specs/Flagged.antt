@@ -2,9 +2,9 @@
 use Prim.Native.Nat.{ℕ}
 use mathlib.Core.Bool.{Bool, true, false, not, _&&_, _||_}
 use lib.Dec.{eqb}
-use Rattle.state_parts.specs.Edges.{pulseOf}
+use Rattle.state_parts.specs.Edges.{flagsNumber, pulseOf}
 use Rattle.state_parts.specs.Numbers.{phaseNumber, bandNumber}
-use Rattle.state_parts.specs.declared.flags.Flags.{Flags}
+use Rattle.state_parts.specs.declared.flags.Edges.{Edges}
 use Rattle.state_parts.specs.declared.phase.Phase.{Phase}
 use Rattle.settle_permission.specs.Bits.{iindpmOf, vindpmOf, thermalOf, shutdownOf}
 use Rattle.laws_account.specs.History.{Run, powered, _▸_, since}
@@ -33,8 +33,8 @@ placeOf packover = 10
 placeOf limit = 11
 
 -- the flags, each by its test
-abbrev pub flagsBy : (Flag → Bool) → Flags
-flagsBy test = record {
+abbrev pub edgesBy : (Flag → Bool) → Edges
+edgesBy test = record {
   good = test good;
   lost = test lost;
   iindpm = test iindpm;
@@ -48,6 +48,10 @@ flagsBy test = record {
   packover = test packover;
   limit = test limit;
 }
+
+-- and their number
+abbrev pub flagsBy : (Flag → Bool) → ℕ
+flagsBy test = flagsNumber (edgesBy test)
 
 -- "Flags, on an edge between the state before the event and the state after settling": two moments, one event apart
 abbrev pub begins : (Run → Bool) → Run → Bool
@@ -106,4 +110,4 @@ module _ (P : Run → Phase) where
   -- "One pulse per event with an unmasked edge, by the masks after it." "Power-on sets flags to 32 and pulses."
   unfoldable pub pulsed : Run → Bool
   pulsed (powered p) = true
-  pulsed (r ▸ e) = pulseOf (flagsBy (λ k. edge k (r ▸ e))) (settingOf 14 (r ▸ e))
+  pulsed (r ▸ e) = pulseOf (edgesBy (λ k. edge k (r ▸ e))) (settingOf 14 (r ▸ e))

@@ -6,7 +6,6 @@ use Rattle.base.specs.Pick.{pick}
 use Rattle.base.specs.Volts.{packOf}
 use Rattle.state_parts.specs.Edges.{noFlags}
 use Rattle.state_parts.specs.declared.cycle.Cycle.{Cycle}
-use Rattle.state_parts.specs.declared.flags.Flags.{Flags}
 use Rattle.state_parts.specs.declared.latches.Latches.{Latches}
 use Rattle.state_parts.specs.declared.phase.Phase.{Phase}
 use Rattle.state_parts.specs.declared.registers.Registers.{Registers}
@@ -72,7 +71,7 @@ module _ (P : Run → Phase) where
   unfoldable pub cycleAt : Run → Cycle
   cycleAt r = record { trickle = timeIn P trickle r; precharge = timeIn P precharge r; fast = timeIn P fast r; done = isDone P r }
 
-  unfoldable pub flagsAt : Run → Flags
+  unfoldable pub flagsAt : Run → ℕ
   flagsAt r = flagsBy (λ k. flagged P k r)
 
   unfoldable pub stateBy : Run → State
@@ -102,7 +101,7 @@ abbrev pub pulseAfter : Past → Bool
 pulseAfter none = false
 pulseAfter (some r) = pulsed phaseAt r
 
-abbrev pub handedAfter : Past → Flags
+abbrev pub handedAfter : Past → ℕ
 handedAfter none = noFlags
 handedAfter (some r) = flagsBy (λ k. handedBack phaseAt k r)
 

@@ -6,7 +6,6 @@ use native.Mathlib.Omega.{arith}
 use native.Mathlib.Nat.{zero-add}
 use lib.ListN.{length}
 use Rattle.base.specs.Pick.{bitOf}
-use Rattle.state_parts.specs.Edges.{flagsNumber}
 use Rattle.state_parts.specs.declared.state.Model.{Model}
 use Rattle.state_parts.specs.declared.state.Model.the-variants.{Off, On}
 use Rattle.log_event.specs.Events.{kindOf}
@@ -24,7 +23,7 @@ use Rattle.laws_demands.specs.Printed.{lineBy, linesBy, Log, readOn, log
 use Rattle.laws_demands.specs.Ours.{ourRun, ourRead}
 
 line-is : (number : ℕ) (e : Event) (o : Outcome) → lineOf number (kindByte (kindOf e)) (o .number) (bitOf (o .pulse)) (o .model) ≡ lineBy reportOf number e o
-unfolding lineOf lineBy flagsNumber
+unfolding lineOf lineBy
 line-is number e o = by (o .model)
   where
     by : (m : Model) → lineOf number (kindByte (kindOf e)) (o .number) (bitOf (o .pulse)) m ≡ lineBy reportOf number e (record { number = o .number; place = o .place; model = m; pulse = o .pulse; handed = o .handed })

@@ -7,7 +7,7 @@ use Rattle.base.specs.Units.{inPack, belowShare}
 use Rattle.state_parts.specs.declared.state.State.{State}
 use Rattle.state_parts.specs.declared.state.Model.{Model}
 use Rattle.state_parts.specs.declared.state.Model.the-variants.{Off, On}
-use Rattle.state_parts.specs.Edges.{merged, pulseOf}
+use Rattle.state_parts.specs.Edges.{merged, pulseOf, flagsNumber}
 use Rattle.log_event.specs.declared.Event.the-variants.{PowerOn, Observe}
 use Rattle.state_start.specs.Values.{startState, startSettings, startVsysmin, startVreg, startIchg}
 use Rattle.state_settings.specs.Kept.{settingsOk}
@@ -74,7 +74,7 @@ unfolding ranBy worksOnce
 stays s t on next = ap (state s) (sym (ap (λ m. worksOnce m (Observe sampled) .model) on) ∙ next)
 
 pub third-refuted : ThirdRefuted
-unfolding reportOf refusalIn inventsTimes refusesAlways ignoresEvents reportsZeros ranBy fastCurrent chargeVoltageOf inputLimitOf stateBy phaseAt mayHold sampleOk elapsed stepOf chargeClampOf shareOf baseOf inPack cutOf profileOf settingsAt registersAt latchesAt cycleAt watchdogAt sampleOf bandAt flagsAt phasesOf count rangeOf firstOf stateOk movedOf packClampOf settingOf byteOf cellsOf overridden inputOk inputOver short low packOver timeIn isDone unserved flagged phaseBy ranges profileOk settingsOk registersOk cycleOk watchdogOk setOf observeOf resetByte takenOf expired since vbat belowShare baseAt sumAfter starts gave wasReset wasServed wasTaken permitted fault suspended wasDone rechargeDue chargeEnds tapering finishOf storeOf writeOf observedOf resetOf pinFault startValue fieldsAt packClamp restarts unitsAfter edge inputGood limitFound wasObserved ending chargeVoltage settleOf startState heldOf shownOf edgesOf merged pulseOf writtenTo countedOf expiredOf clearedIf timesOf unitsOf startSettings resetRegisters startVsysmin fields regulatedOf limitReached timeFound forcedOf latchesOf bandOf settledOf testsOf settingNumbers seenOf recounted withByte byteAt startVreg startIchg faultOf shortOf lowOf packOverOf cycleOf phaseOf permittedOf suspendsOf belowRecharge taperOf endingOf reachedOf clearsOf endsOf judgedOf restartsOf turnedBy changeOf followedOf writtenOf turnOf profileInRange sampleInRange seenOn pastOf nextOf
+unfolding reportOf refusalIn inventsTimes refusesAlways ignoresEvents reportsZeros ranBy fastCurrent chargeVoltageOf inputLimitOf stateBy phaseAt mayHold sampleOk elapsed stepOf chargeClampOf shareOf baseOf inPack cutOf profileOf settingsAt registersAt latchesAt cycleAt watchdogAt sampleOf bandAt flagsAt phasesOf count rangeOf firstOf stateOk movedOf packClampOf settingOf byteOf cellsOf overridden inputOk inputOver short low packOver timeIn isDone unserved flagged phaseBy ranges profileOk settingsOk registersOk cycleOk watchdogOk setOf observeOf resetByte takenOf expired since vbat belowShare baseAt sumAfter starts gave wasReset wasServed wasTaken permitted fault suspended wasDone rechargeDue chargeEnds tapering finishOf storeOf writeOf observedOf resetOf pinFault startValue fieldsAt packClamp restarts unitsAfter edge inputGood limitFound wasObserved ending chargeVoltage settleOf startState heldOf shownOf edgesOf merged pulseOf flagsNumber writtenTo countedOf expiredOf clearedIf timesOf unitsOf startSettings resetRegisters startVsysmin fields regulatedOf limitReached timeFound forcedOf latchesOf bandOf settledOf testsOf settingNumbers seenOf recounted withByte byteAt startVreg startIchg faultOf shortOf lowOf packOverOf cycleOf phaseOf permittedOf suspendsOf belowRecharge taperOf endingOf reachedOf clearsOf endsOf judgedOf restartsOf turnedBy changeOf followedOf writtenOf turnOf profileInRange sampleInRange seenOn pastOf nextOf
 third-refuted = record {
   refuses = λ r report d. differ 0 1 refl (ap (held (λ s. 1)) (d (PowerOn paper ∷ []) on refl .1));
   zeros = λ step d. let some = d firstEvents first refl .2 .charges .1 (charges first (refl, (refl, refl)) (omega arith)) in absurd (omega arith);

@@ -5,9 +5,8 @@ use mathlib.Core.List.{List, [], _∷_}
 use lib.ListN.{length}
 use Rattle.base.specs.Pick.{bitOf}
 use Rattle.base.specs.Volts.{packOf, millivoltsOf}
-use Rattle.state_parts.specs.Edges.{flagsNumber, noFlags}
+use Rattle.state_parts.specs.Edges.{noFlags}
 use Rattle.state_parts.specs.Numbers.{phaseNumber}
-use Rattle.state_parts.specs.declared.flags.Flags.{Flags}
 use Rattle.state_parts.specs.declared.phase.Phase.the-variants.{Idle}
 use Rattle.state_parts.specs.declared.state.State.{State}
 use Rattle.state_parts.specs.declared.state.Model.{Model}
@@ -29,7 +28,7 @@ abbrev pub reportIn : Reporter → Model → Report
 reportIn report Off = record { phase = Idle; current = 0; voltage = packOf 0; limit = 0 }
 reportIn report (On s) = report s
 
-abbrev pub flagsIn : Model → Flags
+abbrev pub flagsIn : Model → ℕ
 flagsIn Off = noFlags
 flagsIn (On s) = s .flags
 
@@ -46,7 +45,7 @@ lineBy report number e o =
       voltage = millivoltsOf (r .voltage);
       limit = r .limit;
       pulse = bitOf (o .pulse);
-      flags = flagsNumber (flagsIn (o .model));
+      flags = flagsIn (o .model);
     }
 
 -- the lines of events on a model, numbered from the one after `number`: each event on the model that the one before it left, refused or not

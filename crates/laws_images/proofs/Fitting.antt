@@ -5,11 +5,9 @@ use mathlib.Core.List.{List, [], _∷_, _++_}
 use native.Mathlib.Omega.{arith}
 use lib.ListN.{getD}
 use Rattle.base.specs.Pick.{bitOf}
-use Rattle.state_parts.specs.Edges.{flagsNumber}
 use Rattle.state_parts.specs.Numbers.{phaseNumber, bandNumber}
 use Rattle.state_parts.specs.declared.band.Band.{Band}
 use Rattle.state_parts.specs.declared.band.Band.the-variants.{Normal, Cold, Hot, Cool, Warm}
-use Rattle.state_parts.specs.declared.flags.Flags.{Flags}
 use Rattle.state_parts.specs.declared.latches.Latches.{Latches}
 use Rattle.state_parts.specs.declared.phase.Phase.{Phase}
 use Rattle.state_parts.specs.declared.phase.Phase.the-variants.{Idle, Trickle, Precharge, Fast, Taper, Done, Suspended, Fault}
@@ -42,25 +40,6 @@ band-fits Hot = omega arith
 band-fits Cool = omega arith
 band-fits Warm = omega arith
 
-flags-fit : (f : Flags) → flagsNumber f < 2 ^ 32
-unfolding flagsNumber
-flags-fit f =
-    omega (
-      arith,
-      bit-low (f .good),
-      bit-low (f .lost),
-      bit-low (f .iindpm),
-      bit-low (f .vindpm),
-      bit-low (f .thermal),
-      bit-low (f .expired),
-      bit-low (f .phase),
-      bit-low (f .band),
-      bit-low (f .inputover),
-      bit-low (f .shutdown),
-      bit-low (f .packover),
-      bit-low (f .limit),
-    )
-
 -- each of the numbers, and 0 behind them
 pub each : (ns : List ℕ) → AllWords ns → (i : ℕ) → getD ns i 0 < 2 ^ 32
 each [] h i = omega arith
@@ -84,8 +63,8 @@ join {a} {b} h k = fits (both-fit a b (h .all) (k .all))
 latches-fit : (l : Latches) → Fits (latchesNumbers l)
 latches-fit l = fits (omega (arith, bit-fits (l .inputok), bit-fits (l .inputover), bit-fits (l .short), bit-fits (l .low), bit-fits (l .packover)))
 
-judged-fit : (s : State) → Fits (judgedNumbers s)
-judged-fit s = fits (omega (arith, phase-fits (s .phase), band-fits (s .band), flags-fit (s .flags)))
+judged-fit : (s : State) → s .flags < 2 ^ 32 → Fits (judgedNumbers s)
+judged-fit s h = fits (omega (arith, phase-fits (s .phase), band-fits (s .band), h))
 
 -- the parts that hold more than tests and cases
 pub record Fitting (s : State) : Type 0 where
@@ -95,7 +74,8 @@ pub record Fitting (s : State) : Type 0 where
   pub cycle : Fits (cycleNumbers (s .cycle))
   pub watchdog : Fits (watchdogNumbers (s .watchdog))
   pub sample : Fits (sampleNumbers (s .sample))
+  pub flags : s .flags < 2 ^ 32
 
 pub all-fit : (s : State) → Fitting s → AllWords (stateNumbers s)
 unfolding stateNumbers
-all-fit s k = join (join (join (join (join (join (join (k .profile) (k .settings)) (k .registers)) (latches-fit (s .latches))) (k .cycle)) (k .watchdog)) (k .sample)) (judged-fit s) .all
+all-fit s k = join (join (join (join (join (join (join (k .profile) (k .settings)) (k .registers)) (latches-fit (s .latches))) (k .cycle)) (k .watchdog)) (k .sample)) (judged-fit s (k .flags)) .all

@@ -6,11 +6,12 @@ use native.Mathlib.Omega.{arith}
 use lib.IntN.{ℤ, pos, negsuc}
 use lib.Signed.{leZ}
 use Rattle.base.proofs.Tests.{and-iff, leb-iff, eqb-iff}
+use Rattle.state_parts.specs.Edges.{allFlags}
 use Rattle.state_parts.specs.Stages.{inTrickle, inPrecharge, inFast}
 use Rattle.state_parts.specs.declared.cycle.Cycle.{Cycle}
 use Rattle.state_parts.specs.declared.phase.Phase.{Phase}
 use Rattle.state_parts.specs.declared.profile.Profile.{Profile}
-use Rattle.state_parts.specs.declared.registers.Registers.{Registers}
+use Rattle.state_parts.specs.declared.state.State.{State}
 use Rattle.state_parts.specs.declared.sample.Sample.{Sample}
 use Rattle.state_parts.specs.declared.settings.Settings.{Settings}
 use Rattle.state_parts.specs.declared.watchdog.Watchdog.{Watchdog}
@@ -42,9 +43,11 @@ sample-fits x e h =
 byte-low : (p : Profile) (a n : ℕ) → 0x15 ≤ a → a ≤ 0x1C → shownOf p a n ≡ n → n < 256
 byte-low p a n h k same = subst (λ (m : ℕ). m < 256) same (shown-byte p a n h k)
 
-stored : (p : Profile) (g : Registers) → registersOk p g ≡ true → Stored g
+stored : (s : State) → registersOk (s .profile) (s .registers) ≡ true → s .flags ≤ allFlags → Stored s
 unfolding registersOk
-stored p g e =
+stored s e h =
+    let p = s .profile in
+    let g = s .registers in
     let k = simp (and-iff, eqb-iff) at e in
     record {
       r15 = byte-low p 0x15 (g .r15) (omega arith) (omega arith) (k .0 .0 .0 .0 .0 .0 .0);
@@ -53,6 +56,7 @@ stored p g e =
       r18 = byte-low p 0x18 (g .r18) (omega arith) (omega arith) (k .0 .0 .0 .0 .1);
       r19 = byte-low p 0x19 (g .r19) (omega arith) (omega arith) (k .0 .0 .0 .1);
       r1a = byte-low p 0x1A (g .r1a) (omega arith) (omega arith) (k .0 .0 .1);
+      flags = h;
     }
 
 profile-fits : (p : Profile) → profileOk p ≡ true → p .stamp < 2 ^ 32 → Fits (profileNumbers p)
@@ -64,10 +68,10 @@ settings-fit p s e =
     let b = settings-bounds p s e in
     fits (omega (arith, bit-fits (s .enchg), bit-fits (s .enterm), bit-fits (s .enhiz), bit-fits (s .enextilim), bit-fits (s .disstat)))
 
-registers-fit : (p : Profile) (g : Registers) → registersOk p g ≡ true → Fits (registersNumbers g)
-registers-fit p g e =
-    let b = stored p g e in
-    let c = few-cells p g e in
+registers-fit : (s : State) → registersOk (s .profile) (s .registers) ≡ true → Stored s → Fits (registersNumbers (s .registers))
+registers-fit s e b =
+    let g = s .registers in
+    let c = few-cells (s .profile) g e in
     fits (omega (arith, bit-fits (g .vchgoverride), bit-fits (g .celloverride), bit-fits (g .ichgoverride)))
 
 -- a limit has at most 172,800 seconds
@@ -86,12 +90,15 @@ watchdog-fits w p ok e = let most = dog-most w p e in fits (omega (arith, profil
 pub valid-storable : ValidStorable
 valid-storable s ok h =
     let k = apart s ok in
+    let few = leb-iff (s .flags) allFlags .0 (k .flags) in
+    let bytes = stored s (k .registers) few in
     let numbers = all-fit s (record {
       profile = profile-fits (s .profile) (k .profile) (h .0);
       settings = settings-fit (s .profile) (s .settings) (k .settings);
-      registers = registers-fit (s .profile) (s .registers) (k .registers);
+      registers = registers-fit s (k .registers) bytes;
       cycle = cycle-fits (s .cycle) (s .profile) (s .phase) (k .profile) (k .cycle);
       watchdog = watchdog-fits (s .watchdog) (s .profile) (k .profile) (k .watchdog);
       sample = sample-fits (s .sample) (k .sample) (h .1);
+      flags = omega (arith, few);
     }) in
-    (numbers, stored (s .profile) (s .registers) (k .registers))
+    (numbers, bytes)

@@ -70,11 +70,12 @@ module _ (all : List ℕ) (words : AllWords all) where
     cycle = fits (word 39, (word 40, (word 41, (bit 42, tt))));
     watchdog = fits (word 43, tt);
     sample = rw (signs .again (getD all 47 0)) (fits (word 44, (word 45, (word 46, (word 47, (word 48, (word 49, tt)))))));
+    flags = omega arith;
   }
 
-  made-stored : Stored (stateFrom all .registers)
+  made-stored : Stored (stateFrom all)
   unfolding stateFrom
-  made-stored = record { r15 = omega arith; r16 = omega arith; r17 = omega arith; r18 = omega arith; r19 = omega arith; r1a = omega arith }
+  made-stored = record { r15 = omega arith; r16 = omega arith; r17 = omega arith; r18 = omega arith; r19 = omega arith; r1a = omega arith; flags = omega arith }
 
   made-storable : Storable (On (stateFrom all))
   made-storable = (all-fit (stateFrom all) made-fits, made-stored)

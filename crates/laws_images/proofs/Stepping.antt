@@ -7,7 +7,6 @@ use borrow.Author.Tests.{eqb-true, eqb-false}
 use Rattle.base.specs.Pick.{pick}
 use Rattle.base.specs.Stamps.{elapsedOf}
 use Rattle.base.specs.Told.{Told, accepted, refused}
-use Rattle.state_parts.specs.declared.flags.Flags.{Flags}
 use Rattle.state_parts.specs.declared.profile.Profile.{Profile}
 use Rattle.state_parts.specs.declared.sample.Sample.{Sample}
 use Rattle.state_parts.specs.declared.state.State.{State}
@@ -91,7 +90,7 @@ spelled event.Service k = tt
 spelled event.Reset k = tt
 
 -- settling, flags and what a write leaves move no stamp
-settled : (s : State) (observed : Bool) (f : Flags) → Stamped s → Stamped (withFlags (settleOf s observed) f)
+settled : (s : State) (observed : Bool) (f : ℕ) → Stamped s → Stamped (withFlags (settleOf s observed) f)
 unfolding settleOf settledOf forcedOf
 settled s observed f h = h
 

@@ -1,12 +1,13 @@
 -- A state that an accepted event makes is settled, and taking its flags moves nothing else.
 use Prim.Native.Nat.{ℕ}
 use mathlib.Core.Path.{_≡_, refl, ap, subst, _∙_}
-use mathlib.Core.Bool.{Bool, true, false, not, not-and-self, or-false}
+use mathlib.Core.Bool.{Bool, true, false, not, not-and-self}
 use native.Mathlib.Omega.{arith}
+use lib.Bits.{or-zero-r}
 use lib.Dec.{eqb}
 use borrow.Author.Tests.{eq-eqb}
-use Rattle.state_parts.specs.Edges.{noFlags, merged, pulseOf}
-use Rattle.state_parts.specs.declared.flags.Flags.{Flags}
+use Rattle.state_parts.specs.Edges.{flagsNumber, merged, pulseOf}
+use Rattle.state_parts.specs.declared.flags.Edges.{Edges}
 use Rattle.state_parts.specs.declared.state.State.{State}
 use Rattle.state_parts.specs.declared.state.Model.{Model}
 use Rattle.state_parts.specs.declared.state.Model.the-variants.{On}
@@ -25,7 +26,7 @@ use Rattle.step_event.proofs.Numbered.{some-number}
 use Rattle.laws_step.specs.Theorems.{StepSettles, TakesFlags, TakeFlagsAgain}
 
 -- settling reads no flags
-flagged-settles : (s : State) (f : Flags) (observed : Bool) → settleOf (withFlags s f) observed ≡ withFlags (settleOf s observed) f
+flagged-settles : (s : State) (f : ℕ) (observed : Bool) → settleOf (withFlags s f) observed ≡ withFlags (settleOf s observed) f
 unfolding settleOf forcedOf settledOf testsOf
 flagged-settles s f observed = refl
 
@@ -33,7 +34,7 @@ pub step-settles : StepSettles
 unfolding finishOf
 step-settles m e s none on = by (comes m e) none on
   where
-    again : (written : State) (observed : Bool) (flags : Flags) → On (withFlags (settleOf written observed) flags) ≡ On s → settleOf s false ≡ s
+    again : (written : State) (observed : Bool) (flags : ℕ) → On (withFlags (settleOf written observed) flags) ≡ On s → settleOf s false ≡ s
     again written observed flags on =
         let same : withFlags (settleOf written observed) flags ≡ s = cc in
         subst (λ (t : State). settleOf t false ≡ t) same
@@ -47,15 +48,31 @@ step-settles m e s none on = by (comes m e) none on
 no-change : (n : ℕ) → not (eqb n n) ≡ false
 no-change n = simp (eq-eqb n n refl)
 
-no-edges : (s : Seen) → edgesOf s s ≡ noFlags
+abbrev noEdges : Edges
+noEdges = record {
+  good = false;
+  lost = false;
+  iindpm = false;
+  vindpm = false;
+  thermal = false;
+  expired = false;
+  phase = false;
+  band = false;
+  inputover = false;
+  shutdown = false;
+  packover = false;
+  limit = false;
+}
+
+no-edges : (s : Seen) → edgesOf s s ≡ noEdges
 unfolding edgesOf
 no-edges s = simp (not-and-self, no-change)
 
-merged-none : (f : Flags) → merged f noFlags ≡ f
-unfolding merged
-merged-none f = simp or-false
+merged-none : (f : ℕ) → merged f noEdges ≡ f
+unfolding merged flagsNumber
+merged-none f = or-zero-r f
 
-no-pulse : (masks : ℕ) → pulseOf noFlags masks ≡ false
+no-pulse : (masks : ℕ) → pulseOf noEdges masks ≡ false
 unfolding pulseOf
 no-pulse masks = refl
 

@@ -3,7 +3,6 @@ ghost use mathlib.Core.Path.{_≡_};
 ghost use Rattle.report_state.specs.Lines.{lineOf};
 use crate::report;
 use base::volts;
-use state_parts::flags;
 use state_parts::phase;
 use state_parts::state::Model;
 
@@ -37,8 +36,6 @@ pub fn line_of(number: u32, kind: u32, answer: u32, pulse: u32, m: Model) -> Lin
             flags: 0,
         },
         Model::On(s) => {
-            let held = s.flags;
-            let flags = flags::number(held);
             let shown = report::report(s);
             let current = shown.current;
             let limit = shown.limit;
@@ -55,7 +52,7 @@ pub fn line_of(number: u32, kind: u32, answer: u32, pulse: u32, m: Model) -> Lin
                 voltage,
                 limit,
                 pulse,
-                flags,
+                flags: s.flags,
             }
         }
     }

@@ -3,7 +3,6 @@ use Prim.Native.Nat.{ℕ}
 use mathlib.Core.Bool.{Bool}
 use Rattle.base.specs.declared.units.PackMv.{PackMv}
 use Rattle.state_parts.specs.declared.cycle.Cycle.{Cycle}
-use Rattle.state_parts.specs.declared.flags.Flags.{Flags}
 use Rattle.state_parts.specs.declared.latches.Latches.{Latches}
 use Rattle.state_parts.specs.declared.registers.Registers.{Registers}
 use Rattle.state_parts.specs.declared.sample.Sample.{Sample}
@@ -95,7 +94,7 @@ withSample s x = record {
   flags = s .flags;
 }
 
-abbrev pub withFlags : State → Flags → State
+abbrev pub withFlags : State → ℕ → State
 withFlags s f = record {
   profile = s .profile;
   settings = s .settings;

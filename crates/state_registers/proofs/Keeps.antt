@@ -181,6 +181,7 @@ module _ (s : State) (e : stateOk s ≡ true) where
           cycle = parts .cycle;
           watchdog = parts .watchdog;
           sample = parts .sample;
+          flags = parts .flags;
         })
 
   pub reset-passes : stateOk (resetOf s) ≡ true
@@ -194,4 +195,5 @@ module _ (s : State) (e : stateOk s ≡ true) where
         cycle = start-cycle-pass (s .profile) (s .phase);
         watchdog = start-watchdog-pass (s .profile);
         sample = parts .sample;
+        flags = parts .flags;
       })

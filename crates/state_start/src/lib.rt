@@ -10,7 +10,6 @@ use base::volts::either;
 use base::volts::pack;
 use state_parts::band::Band;
 use state_parts::cycle::Cycle;
-use state_parts::flags;
 use state_parts::latches::Latches;
 use state_parts::phase::Phase;
 use state_parts::pins;
@@ -151,7 +150,6 @@ pub fn start(p: Profile) -> State
     let cycle = start_cycle();
     let watchdog = start_watchdog();
     let sample = start_sample(p);
-    let flags = flags::none();
     State {
         profile: p,
         settings: settings,
@@ -162,6 +160,6 @@ pub fn start(p: Profile) -> State
         sample: sample,
         phase: Phase::Idle,
         band: Band::Normal,
-        flags: flags,
+        flags: 0,
     }
 }

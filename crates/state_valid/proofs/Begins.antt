@@ -88,4 +88,5 @@ start-passes p e =
       cycle = start-cycle-pass p Idle;
       watchdog = start-watchdog-pass p;
       sample = start-sample-pass p;
+      flags = refl;
     })

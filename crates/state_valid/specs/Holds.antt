@@ -6,6 +6,7 @@ use lib.IntN.{pos, negsuc}
 use lib.Signed.{leZ}
 use Rattle.state_fields.specs.Held.{storedAt}
 use Rattle.state_fields.specs.Rows.{fsw, shownOf, frequencyOk}
+use Rattle.state_parts.specs.Edges.{allFlags}
 use Rattle.state_parts.specs.Stages.{inTrickle, inPrecharge, inFast, limitUnits}
 use Rattle.state_parts.specs.declared.cycle.Cycle.{Cycle}
 use Rattle.state_parts.specs.declared.phase.Phase.{Phase}
@@ -56,4 +57,4 @@ watchdogOk w p = leb (w .count) (p .watchdog * 1000)
 unfoldable pub stateOk : State → Bool
 stateOk s =
     profileOk (s .profile) && settingsOk (s .profile) (s .settings) && registersOk (s .profile) (s .registers) && cycleOk (s .cycle) (s .profile) (s .phase)
-    && watchdogOk (s .watchdog) (s .profile) && sampleOk (s .sample)
+    && watchdogOk (s .watchdog) (s .profile) && sampleOk (s .sample) && leb (s .flags) allFlags

@@ -107,5 +107,6 @@ pub fn state_ok(s: State) -> bool
     let y = cycle_ok(s.cycle, s.profile, phase);
     let w = watchdog_ok(s.watchdog, s.profile);
     let x = sample_ok(s.sample);
-    p & t & g & y & w & x
+    let f = s.flags <= 4095;
+    p & t & g & y & w & x & f
 }

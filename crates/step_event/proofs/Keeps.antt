@@ -1,11 +1,11 @@
 -- What every step comes to: a refusal that leaves the model as it was, or the settling of a state whose parts hold what they may.
-use Prim.Native.Nat.{ℕ}
+use Prim.Native.Nat.{ℕ, _≤_}
 use mathlib.Core.Path.{_≡_, refl}
 use mathlib.Core.Bool.{Bool, true, false, not, _&&_}
 use mathlib.Core.Logic.{_≢_, _⊎_, inl, inr}
 use native.Mathlib.Omega.{arith}
 use lib.Dec.{leb, ltb, eqb}
-use borrow.Author.Tests.{leb-true, ltb-false, not-false}
+use borrow.Author.Tests.{le-leb, leb-true, ltb-false, not-false}
 use Rattle.base.specs.Pick.{pick}
 use Rattle.base.specs.Stamps.{elapsedOf}
 use Rattle.base.specs.Refusals.{refusalNumber}
@@ -13,8 +13,8 @@ use Rattle.base.specs.declared.refusal.Refusal.{Refusal}
 use Rattle.base.specs.declared.refusal.Refusal.the-variants.{OutOfRange, NotPowered, StampAhead, UnknownSetting, BadValue, UnknownAddress, BadFrequency}
 use Rattle.base.specs.Told.{Told, accepted, refused}
 use Rattle.base.proofs.Tests.{and-iff}
+use Rattle.state_parts.specs.Edges.{allFlags}
 use Rattle.state_parts.specs.With.{withSettings, withFlags}
-use Rattle.state_parts.specs.declared.flags.Flags.{Flags}
 use Rattle.state_parts.specs.declared.profile.Profile.{Profile}
 use Rattle.state_parts.specs.declared.sample.Sample.{Sample}
 use Rattle.state_parts.specs.declared.state.State.{State}
@@ -27,7 +27,9 @@ use Rattle.state_settings.specs.Numbered.{storeOf}
 use Rattle.state_settings.specs.Ranges.{knownSetting, mayHold}
 use Rattle.state_settings.proofs.Stores.{store-passes}
 use Rattle.state_valid.specs.Holds.{profileOk, sampleOk, stateOk}
+use Rattle.state_parts.proofs.FlagLaws.{flags-fit}
 use Rattle.state_valid.proofs.Begins.{start-passes, start-watchdog-pass}
+use Rattle.state_valid.proofs.Wholes.{apart, whole}
 use Rattle.state_registers.specs.Reads.{knownAddress}
 use Rattle.state_registers.specs.Writes.{writtenTo, writeOf}
 use Rattle.state_registers.specs.Resets.{resetOf}
@@ -43,7 +45,7 @@ use Rattle.step_turns.proofs.Fitting.{every-turn-fits}
 use Rattle.step_event.specs.Clock.{observedOf}
 use Rattle.step_kinds.specs.Answers.{Outcome, refusedWith}
 use Rattle.step_kinds.specs.Changes.{Changed, changed}
-use Rattle.step_kinds.specs.Finish.{observing, finishOf}
+use Rattle.step_kinds.specs.Finish.{observing, keptBy, finishOf}
 use Rattle.step_kinds.specs.Plain.{afterWrite, openedAs, setOf, writtenOf, servicedOf}
 use Rattle.step_kinds.specs.declared.change.Way.{Way}
 use Rattle.step_kinds.specs.declared.change.Way.the-variants.{Plain, Observes, Takes, Powers}
@@ -81,6 +83,7 @@ module _ (s : State) (e : stateOk s ≡ true) where
         cycle = k .cycle;
         watchdog = k .watchdog;
         sample = k .sample;
+        flags = k .flags;
       })))
 
   -- FSW is 1 to 6 where the byte is taken
@@ -119,6 +122,7 @@ module _ (s : State) (e : stateOk s ≡ true) where
         cycle = k .cycle;
         watchdog = start-watchdog-pass (s .profile);
         sample = k .sample;
+        flags = k .flags;
       }
 
   follows : (later : Later) → LaterFits later → Writes (followedOf s later)
@@ -178,17 +182,34 @@ refused-leaves m event = by (comes m event)
     by (refuses r) h = record { place = refl; model = refl; pulse = refl; handed = refl }
     by (settles written way k) h = absurd (h refl)
 
--- no test reads the flags
-flagged-passes : (s : State) (f : Flags) → stateOk s ≡ true → stateOk (withFlags s f) ≡ true
-unfolding stateOk
-flagged-passes s f e = e
+-- only one test reads the flags
+flagged-passes : (s : State) (f : ℕ) → stateOk s ≡ true → f ≤ allFlags → stateOk (withFlags s f) ≡ true
+flagged-passes s f e h =
+    let k = apart s e in
+    whole (withFlags s f) (record {
+      profile = k .profile;
+      settings = k .settings;
+      registers = k .registers;
+      cycle = k .cycle;
+      watchdog = k .watchdog;
+      sample = k .sample;
+      flags = le-leb f allFlags h;
+    })
+
+kept-fit : (way : Way) (all : ℕ) → all ≤ allFlags → keptBy way all ≤ allFlags
+kept-fit Plain all h = h
+kept-fit Observes all h = h
+kept-fit Takes all h = omega arith
+kept-fit Powers all h = omega arith
 
 -- where the event is accepted the model before it doesn't matter
 passes : (m : Model) {o : Outcome} → Comes m o → (o .number ≡ 0) ⊎ (modelOk m ≡ true) → modelOk (o .model) ≡ true
 unfolding modelOk finishOf
 passes m (refuses r) (inl none) = absurd (omega (arith, some-number r))
 passes m (refuses r) (inr ok) = ok
-passes m (settles written way k) h = flagged-passes (settleOf written (observing way)) _ (settled-passes written (observing way) k)
+passes m (settles written way k) h =
+    let few = flags-fit (written .flags) _ (leb-true (written .flags) allFlags (k .flags)) in
+    flagged-passes (settleOf written (observing way)) _ (settled-passes written (observing way) k) (kept-fit way _ few)
 
 -- the same of a turn
 pub turned-passes : (m : Model) (t : Turn) → TurnFits t → turnedBy m t .number ≡ 0 → modelOk (turnedBy m t .model) ≡ true

@@ -64,4 +64,5 @@ observed-ready s x e ok h =
       cycle = timed (s .profile) (s .phase) (unitsOf (s .sample) ms) (s .cycle) (k .cycle) most;
       watchdog = counted-passes (s .profile) (s .watchdog) ms;
       sample = ok;
+      flags = k .flags;
     }

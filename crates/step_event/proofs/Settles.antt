@@ -3,9 +3,10 @@ use Prim.Native.Nat.{ℕ, zero, suc, _+_, _*_, _<_}
 use mathlib.Core.Path.{_≡_, refl, ap, _∙_}
 use mathlib.Core.Bool.{Bool, true, false, _||_, true≢false, and-true, and-false}
 use native.Mathlib.Omega.{arith}
-use lib.Dec.{eqb}
+use lib.Dec.{leb, eqb}
 use borrow.Author.Tests.{lt-ltb, le-leb, leb-false, ne-eqb}
 use Rattle.base.specs.Pick.{pick}
+use Rattle.state_parts.specs.Edges.{allFlags}
 use Rattle.state_parts.specs.declared.cycle.Cycle.{Cycle}
 use Rattle.state_parts.specs.declared.phase.Phase.{Phase}
 use Rattle.state_parts.specs.declared.phase.Phase.the-variants.{Idle, Trickle, Precharge, Fast, Taper, Done, Suspended, Fault}
@@ -38,6 +39,7 @@ pub record Ready (s : State) : Type 0 where
   pub cycle : cycleOk (s .cycle) (s .profile) Idle ≡ true
   pub watchdog : watchdogOk (s .watchdog) (s .profile) ≡ true
   pub sample : sampleOk (s .sample) ≡ true
+  pub flags : leb (s .flags) allFlags ≡ true
 
 -- a stage that isn't held passes its limit by less than one observation's most
 pub in-time : (n time : ℕ) → time < suc n * 2000 + 7200000 → stageOk (suc n) false time ≡ true
@@ -68,6 +70,7 @@ ready s e =
       cycle = loose (s .cycle) (s .profile) (s .phase) (k .cycle);
       watchdog = k .watchdog;
       sample = k .sample;
+      flags = k .flags;
     }
 
 -- EN_CHG forced to 0 is a setting that a set may give
@@ -151,4 +154,5 @@ settled-passes s observed k =
       cycle = ap (λ (p : Profile). cycleOk (after .cycle) p (after .phase)) (u .profile) ∙ tight (after .cycle) (s .profile) cycled (after .phase) (below-limits s observed);
       watchdog = simp (u .watchdog, u .profile) (k .watchdog);
       sample = ap sampleOk (u .sample) ∙ k .sample;
+      flags = ap (λ f. leb f allFlags) (u .flags) ∙ k .flags;
     })

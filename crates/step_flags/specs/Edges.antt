@@ -2,7 +2,7 @@
 use mathlib.Core.Bool.{not}
 use lib.Dec.{eqb}
 use Rattle.state_parts.specs.Numbers.{phaseNumber, bandNumber}
-use Rattle.state_parts.specs.declared.flags.Flags.{Flags}
+use Rattle.state_parts.specs.declared.flags.Edges.{Edges}
 use Rattle.state_parts.specs.declared.state.State.{State}
 use Rattle.settle_levels.specs.Comparators.{goodOf}
 use Rattle.settle_permission.specs.Bits.{iindpmOf, vindpmOf, thermalOf, shutdownOf}
@@ -28,7 +28,7 @@ seenOf s = record {
 
 -- "bit 0 input good, 1 input lost, 2-4 IINDPM, VINDPM, thermal regulation begin, 5 watchdog expired, 6 phase changed, 7 band changed, 8 VIN over, 9 thermal shutdown,
 -- 10 battery over, 11 a first limit reached."
-unfoldable pub edgesOf : Seen → Seen → Flags
+unfoldable pub edgesOf : Seen → Seen → Edges
 edgesOf was is = record {
   good = begins (was .good) (is .good);
   lost = begins (is .good) (was .good);

@@ -6,7 +6,7 @@ use settle_levels::comparators;
 use settle_permission::bits;
 use settle_permission::limits;
 use state_parts::band;
-use state_parts::flags::Flags;
+use state_parts::flags::Edges;
 use state_parts::phase;
 use state_parts::state::State;
 
@@ -58,10 +58,10 @@ pub fn seen_in(s: State) -> Seen
 }
 
 // One flag for each of the twelve edges.
-pub fn between(was: Seen, is: Seen) -> Flags
+pub fn between(was: Seen, is: Seen) -> Edges
     ensures { λ r. ⌜ r ≡ edgesOf was is ⌝ }
 {
-    Flags {
+    Edges {
         good: !was.good & is.good,
         lost: !is.good & was.good,
         iindpm: !was.iindpm & is.iindpm,

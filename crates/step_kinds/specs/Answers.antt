@@ -3,7 +3,6 @@ use Prim.Native.Nat.{ℕ}
 use mathlib.Core.Bool.{Bool, false}
 use Rattle.base.specs.Refusals.{refusalNumber}
 use Rattle.state_parts.specs.Edges.{noFlags}
-use Rattle.state_parts.specs.declared.flags.Flags.{Flags}
 use Rattle.state_parts.specs.declared.state.Model.{Model}
 use Rattle.state_parts.specs.declared.state.Model.the-variants.{On}
 use Rattle.step_kinds.specs.declared.answer.Stepped.{Stepped}
@@ -15,7 +14,7 @@ pub record Outcome : Type 0 where
   pub place : ℕ
   pub model : Model
   pub pulse : Bool
-  pub handed : Flags
+  pub handed : ℕ
 
 -- "A refusal returns its number, place and the old state."
 abbrev pub refusedAt : ℕ → ℕ → Model → Outcome

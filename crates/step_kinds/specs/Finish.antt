@@ -1,9 +1,9 @@
 -- 01: what every accepted event ends with. "4. Settle." "Other accepted events settle on the held sample". Flags "on an edge between the state before the event and the
 -- state after settling". "One pulse per event with an unmasked edge, by the masks after it."
+use Prim.Native.Nat.{ℕ}
 use mathlib.Core.Bool.{Bool, true, false}
 use Rattle.state_parts.specs.Edges.{merged, pulseOf, noFlags, powerOnFlags}
 use Rattle.state_parts.specs.With.{withFlags}
-use Rattle.state_parts.specs.declared.flags.Flags.{Flags}
 use Rattle.state_parts.specs.declared.state.State.{State}
 use Rattle.state_parts.specs.declared.state.Model.the-variants.{On}
 use Rattle.settle_all.specs.Settle.{settleOf}
@@ -21,13 +21,13 @@ observing Takes = false
 observing Powers = false
 
 -- "take flags | none; hands back the held flags and clears them", those of its own settling too. "Power-on sets flags to 32"
-abbrev pub keptBy : Way → Flags → Flags
+abbrev pub keptBy : Way → ℕ → ℕ
 keptBy Plain all = all
 keptBy Observes all = all
 keptBy Takes all = noFlags
 keptBy Powers all = powerOnFlags
 
-abbrev pub handedBy : Way → Flags → Flags
+abbrev pub handedBy : Way → ℕ → ℕ
 handedBy Plain all = noFlags
 handedBy Observes all = noFlags
 handedBy Takes all = all

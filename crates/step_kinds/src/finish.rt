@@ -7,7 +7,6 @@ use crate::answer::Stepped;
 use crate::change::Way;
 use settle_all::settle;
 use state_parts::flags;
-use state_parts::flags::Flags;
 use state_parts::state::State;
 use step_flags::between;
 use step_flags::between::Seen;
@@ -25,26 +24,26 @@ fn observing(way: Way) -> bool
 }
 
 // The flags that are held after the event, of those that it found and raised.
-fn kept_by(way: Way, all: Flags) -> Flags
+fn kept_by(way: Way, all: u32) -> u32
     ensures { λ r. ⌜ r ≡ keptBy way all ⌝ }
 {
     match way {
         Way::Plain => all,
         Way::Observes => all,
-        Way::Takes => flags::none(),
-        Way::Powers => flags::powered(),
+        Way::Takes => 0,
+        Way::Powers => 32,
     }
 }
 
 // The flags that it hands back.
-fn handed_by(way: Way, all: Flags) -> Flags
+fn handed_by(way: Way, all: u32) -> u32
     ensures { λ r. ⌜ r ≡ handedBy way all ⌝ }
 {
     match way {
-        Way::Plain => flags::none(),
-        Way::Observes => flags::none(),
+        Way::Plain => 0,
+        Way::Observes => 0,
         Way::Takes => all,
-        Way::Powers => flags::none(),
+        Way::Powers => 0,
     }
 }
 
@@ -61,7 +60,7 @@ fn pulses_by(way: Way, edge: bool) -> bool
 }
 
 // The state with these flags.
-fn flagged(s: State, f: Flags) -> State
+fn flagged(s: State, f: u32) -> State
     ensures { λ r. ⌜ r ≡ withFlags s f ⌝ }
 {
     let mut r = s;

@@ -4,7 +4,6 @@ use libc::STDOUT_FILENO;
 use report_state::answer::Stat;
 use report_state::stat;
 use state_parts::band::Band;
-use state_parts::flags;
 use state_parts::state::Model;
 use state_parts::state::State;
 use state_registers::reading;
@@ -75,7 +74,7 @@ pub(crate) fn print(m: Met) {
         Model::On(s) => {
             say::number(number);
             state(s);
-            io::print_decimal(STDOUT_FILENO, flags::number(handed) as u64);
+            io::print_decimal(STDOUT_FILENO, handed as u64);
             say::text(b"\n");
         }
     }

@@ -5,7 +5,7 @@ use Rattle.state_valid.proofs.holds.state_ok.Tie as tie
 
 returns : tie.Need-returns
 unfolding stateOk
-returns c = simp (c .sample-ok .ensures, c .before .watchdog-ok .ensures, c .before .before .cycle-ok .ensures, c .before .before .before .registers-ok .ensures, c .before .before .before .before .settings-ok .ensures, c .before .before .before .before .before .profile-ok .ensures)
+returns c = let d = c .before in simp (d .sample-ok .ensures, d .before .watchdog-ok .ensures, d .before .before .cycle-ok .ensures, d .before .before .before .registers-ok .ensures, d .before .before .before .before .settings-ok .ensures, d .before .before .before .before .before .profile-ok .ensures)
 
 pub state-ok-spec : {M : Type 1} → statement M
 state-ok-spec =
