@@ -19,7 +19,7 @@ use Rattle.step_kinds.specs.Answers.{steppedTold}
 use Rattle.step_kinds.specs.declared.answer.Stepped.{Stepped}
 use Rattle.step_kinds.specs.declared.answer.Stepped.the-variants.{Accepted, Refused}
 use Rattle.c_words.specs.Words.{bytesOf}
-use Rattle.c_image.specs.Images.{modelIn, loadedTold, savedIn}
+use Rattle.c_image.specs.Images.{imageLength, modelIn, loadedTold, savedIn}
 use Rattle.c_image.specs.declared.Loaded.{Loaded}
 use Rattle.c_image.specs.declared.Loaded.the-variants.{Held, NoImage}
 use Rattle.c_image.proofs.ImageLaws.{loaded-long}
@@ -39,11 +39,11 @@ module _ (image : List ℕ) (room wanted : ℕ) (x : Loaded) (told : loadedTold 
   is-ready m e h = rw (← told, e, le-ltb room wanted h)
 
 -- an image that a call starts with has its length
-pub ready-long : (image : List ℕ) (room wanted : ℕ) (m : Model) → accepted m ≡ readyOf image room wanted → length image ≡ 216
+pub ready-long : (image : List ℕ) (room wanted : ℕ) (m : Model) → accepted m ≡ readyOf image room wanted → length image ≡ imageLength
 unfolding readyOf
 ready-long image room wanted m e = go (modelIn image) refl e
   where
-    go : (x : Told Model) → modelIn image ≡ x → accepted m ≡ withRoom x room wanted → length image ≡ 216
+    go : (x : Told Model) → modelIn image ≡ x → accepted m ≡ withRoom x room wanted → length image ≡ imageLength
     go (accepted n) ex e = loaded-long image n ex
     go (refused n) ex e = absurd (let z : _≡_ {A = ℕ} 0 1 = cc in omega arith)
 
@@ -65,11 +65,11 @@ some-number InputTooLong = refl
 some-number LogsPart = refl
 
 module _ (stepped : Stepped) (image shown : List ℕ) where
-  pub landed : (s : State) (pulse : Bool) (handed : ℕ) (numbers saved left : List ℕ) → stepped ≡ Accepted s pulse handed → length image ≡ 216
+  pub landed : (s : State) (pulse : Bool) (handed : ℕ) (numbers saved left : List ℕ) → stepped ≡ Accepted s pulse handed → length image ≡ imageLength
       → numbers ≡ shownNumbers (On s) pulse handed → saved ≡ savedIn image (On s) → left ≡ put (bytesOf numbers) shown
       → both 0 saved left ≡ landOf (steppedTold stepped) image shown
   unfolding landOf savedIn
-  landed s pulse handed numbers saved left e l en es el = rw (e, es, el, en, eq-eqb (length image) 216 l)
+  landed s pulse handed numbers saved left e l en es el = rw (e, es, el, en, eq-eqb (length image) imageLength l)
 
   pub not-landed : (r : Refusal) (place : ℕ) (m : Model) (n : ℕ) → stepped ≡ Refused r place m → n ≡ refusalNumber r → both n image shown ≡ landOf (steppedTold stepped) image shown
   unfolding landOf

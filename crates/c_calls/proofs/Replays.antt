@@ -7,7 +7,7 @@ use borrow.Author.Tests.{eq-eqb}
 use Rattle.state_parts.specs.declared.state.Model.{Model}
 use Rattle.step_event.specs.Rests.{endedOf}
 use Rattle.step_event.specs.declared.replaying.Ended.{Ended}
-use Rattle.c_image.specs.Images.{modelIn, loadedTold, savedIn}
+use Rattle.c_image.specs.Images.{imageLength, modelIn, loadedTold, savedIn}
 use Rattle.c_image.specs.declared.Loaded.{Loaded}
 use Rattle.c_image.specs.declared.Loaded.the-variants.{Held, NoImage}
 use Rattle.c_image.proofs.ImageLaws.{loaded-long}
@@ -24,5 +24,5 @@ module _ (image log : List ℕ) (place : ℕ) (x : Loaded) (told : loadedTold x 
       → _≡_ {A = Left Replayed} (left (record { number = 0; code = ended .code; records = ended .walk .number; place = ended .place }) saved) (replayOf image log place)
   unfolding replayOf savedIn
   replayed m ended saved e ee es =
-      let long : length image ≡ 216 = loaded-long image m (sym told ∙ ap loadedTold e) in
-      rw (← told, e, es, eq-eqb (length image) 216 long, ← ee)
+      let long : length image ≡ imageLength = loaded-long image m (sym told ∙ ap loadedTold e) in
+      rw (← told, e, es, eq-eqb (length image) imageLength long, ← ee)

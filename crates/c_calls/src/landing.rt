@@ -3,6 +3,7 @@ ghost use mathlib.Core.Path.{_≡_};
 ghost use lib.ListN.{length};
 ghost use Rattle.step_kinds.specs.Answers.{steppedTold};
 ghost use Rattle.state_parts.specs.declared.state.Model.the-variants.{On};
+ghost use Rattle.c_image.specs.Images.{imageLength};
 ghost use Rattle.c_calls.specs.Landing.{both, shownNumbers, landOf, readyTold, readyOf};
 use base::choice;
 use base::refusal;
@@ -55,7 +56,7 @@ fn shown_numbers(s: State, pulse: bool, handed: u32) -> Shown
 
 // Leaves what an event came to in the image and the answer buffer: its number.
 pub(crate) fn land(image: &mut [u8], shown: &mut [u8], stepped: Stepped) -> u32
-    requires { ⌜ length (now image) ≡ 216 ⌝ }
+    requires { ⌜ length (now image) ≡ imageLength ⌝ }
     ensures { λ r. ⌜ both r (now (image .exit)) (now (shown .exit)) ≡ landOf (steppedTold stepped) (now (image .entry)) (now (shown .entry)) ⌝ }
 {
     match stepped {

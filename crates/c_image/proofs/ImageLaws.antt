@@ -1,5 +1,5 @@
 -- Images: load after save is the model, one image each, and no image of another format.
-use Prim.Native.Nat.{ℕ}
+use Prim.Native.Nat.{ℕ, suc}
 use mathlib.Core.Path.{_≡_, refl, sym, ap, _∙_}
 use mathlib.Core.Bool.{Bool, true, false}
 use mathlib.Core.List.{List, _∷_}
@@ -17,14 +17,15 @@ use Rattle.c_words.proofs.Sames.{same-told}
 use Rattle.c_list.specs.Numbers.{stateNumbers}
 use Rattle.c_list.proofs.Lengths.{state-long}
 use Rattle.c_list.proofs.Again.{made-again}
-use Rattle.c_image.specs.Images.{zeros, imageFormat, modelNumbers, imageOf, modelFrom, modelIn}
+use Rattle.c_list.specs.Places.{stateCount}
+use Rattle.c_image.specs.Images.{zeros, imageFormat, imageLength, modelNumbers, imageOf, modelFrom, modelIn}
 use Rattle.c_image.specs.Promises.{Storable, LoadsBack, OneImage, ImageLong, ImagesDiffer, FormatNotZero, OffIsZeros, OtherFormat, OneAnswer}
 use Rattle.c_image.specs.declared.Loaded.the-variants.{Held, NoImage}
 
 pub format-not-zero : FormatNotZero
 format-not-zero e = omega arith
 
-numbers-long : (m : Model) → length (modelNumbers m) ≡ 54
+numbers-long : (m : Model) → length (modelNumbers m) ≡ suc stateCount
 numbers-long Off = refl
 numbers-long (On s) = let e = state-long s in omega arith
 
@@ -50,7 +51,7 @@ unfolding modelFrom imageOf
 from-on s h =
     let all : List ℕ = stateNumbers s in
     let e = reads-back (imageFormat ∷ all) (omega arith, h .0) in
-    let words : wordsIn 53 (drop 4 (bytesOf (imageFormat ∷ all))) ≡ all = ap (λ k. wordsIn k (drop 4 (bytesOf (imageFormat ∷ all)))) (sym (state-long s)) ∙ rest-words imageFormat all e in
+    let words : wordsIn stateCount (drop 4 (bytesOf (imageFormat ∷ all))) ≡ all = ap (λ k. wordsIn k (drop 4 (bytesOf (imageFormat ∷ all)))) (sym (state-long s)) ∙ rest-words imageFormat all e in
     rw (first-word imageFormat all e, words, made-again s (h .1))
 
 from-image : (m : Model) → Storable m → modelFrom (imageOf m) ≡ m
@@ -70,7 +71,7 @@ unfolding modelIn
 one-image bytes m e = told-one (sameBytes (imageOf (modelFrom bytes)) bytes) bytes (imageOf (modelFrom bytes)) m (modelFrom bytes) (same-told .told (imageOf (modelFrom bytes)) bytes) refl e
 
 -- what loads has an image's length
-pub loaded-long : (bytes : List ℕ) (m : Model) → modelIn bytes ≡ accepted m → length bytes ≡ 216
+pub loaded-long : (bytes : List ℕ) (m : Model) → modelIn bytes ≡ accepted m → length bytes ≡ imageLength
 loaded-long bytes m e = ap length (one-image bytes m e) ∙ image-long m
 
 pub images-differ : ImagesDiffer

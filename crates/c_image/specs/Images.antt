@@ -1,5 +1,5 @@
 -- The header: "a head holds the model as an image, a plain array of bytes of its own".
-use Prim.Native.Nat.{ℕ, zero, suc}
+use Prim.Native.Nat.{ℕ, zero, suc, _+_, _*_}
 use mathlib.Core.Bool.{Bool}
 use mathlib.Core.List.{List, [], _∷_}
 use lib.ListN.{length, drop}
@@ -10,6 +10,7 @@ use Rattle.state_parts.specs.declared.state.Model.{Model}
 use Rattle.state_parts.specs.declared.state.Model.the-variants.{Off, On}
 use Rattle.c_words.specs.Words.{bytesOf, wordAt, wordsIn}
 use Rattle.c_words.specs.Same.{sameBytes}
+use Rattle.c_list.specs.Places.{stateCount}
 use Rattle.c_list.specs.Numbers.{stateNumbers}
 use Rattle.c_list.specs.Back.{stateFrom}
 use Rattle.c_image.specs.declared.Loaded.{Loaded}
@@ -25,7 +26,7 @@ imageFormat = 1
 
 -- "54 words. Word 0 is 0 before a power-on, and then all other words are 0 too; after it, it is the format's number, CHEUKDANE_FORMAT, and the state's numbers follow".
 abbrev pub modelNumbers : Model → List ℕ
-modelNumbers Off = 0 ∷ zeros 53
+modelNumbers Off = 0 ∷ zeros stateCount
 modelNumbers (On s) = imageFormat ∷ stateNumbers s
 
 unfoldable pub imageOf : Model → List ℕ
@@ -33,7 +34,7 @@ imageOf m = bytesOf (modelNumbers m)
 
 -- the model that bytes would be the image of
 unfoldable pub modelFrom : List ℕ → Model
-modelFrom bytes = pick (eqb (wordAt bytes 0) 0) Off (On (stateFrom (wordsIn 53 (drop 4 bytes))))
+modelFrom bytes = pick (eqb (wordAt bytes 0) 0) Off (On (stateFrom (wordsIn stateCount (drop 4 bytes))))
 
 -- "bytes that aren't an image, or are of another length .., are 5": bytes are an image if and only if they are the image of the model that they would be
 unfoldable pub modelIn : List ℕ → Told Model
@@ -43,9 +44,13 @@ abbrev pub loadedTold : Loaded → Told Model
 loadedTold (Held m) = accepted m
 loadedTold NoImage = refused 5
 
+-- four bytes to a word: the first word's and those of the state's numbers
+abbrev pub imageLength : ℕ
+imageLength = 4 + stateCount * 4
+
 -- whether a part is as long as an image
 abbrev pub isLong : List ℕ → Bool
-isLong bytes = eqb (length bytes) 216
+isLong bytes = eqb (length bytes) imageLength
 
 -- a part that a model's image was saved in: a part of another length stays as it was
 unfoldable pub savedIn : List ℕ → Model → List ℕ

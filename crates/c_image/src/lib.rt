@@ -1,5 +1,6 @@
 // A model's image: its format, its numbers as words, and the model back out of them.
 use c_list::list::Numbers;
+use c_list::places::COUNT;
 use c_words::same;
 use state_parts::state::Model;
 ghost use mathlib.Core.Path.{_≡_};
@@ -7,10 +8,13 @@ ghost use mathlib.Core.List.{_∷_};
 ghost use lib.ListN.{length};
 ghost use Rattle.c_words.specs.Words.{bytesOf};
 ghost use Rattle.c_words.specs.Same.{sameBytes};
-ghost use Rattle.c_image.specs.Images.{imageOf, modelFrom, modelIn, loadedTold, isLong, savedIn};
+ghost use Rattle.c_image.specs.Images.{imageLength, imageOf, modelFrom, modelIn, loadedTold, isLong, savedIn};
 
 // The first word of the image of a model that is on: the number of this list of a state's numbers (`imageFormat`). Never 0, the first word of a model that is off.
 const FORMAT: u32 = 1;
+
+// An image's bytes: four to a word, the first word and the state's numbers (`imageLength`).
+const LENGTH: usize = 4 + COUNT * 4;
 
 // The model of an image, or that the bytes aren't one.
 pub enum Loaded {
@@ -20,7 +24,7 @@ pub enum Loaded {
 
 // Stores a first word and the numbers after it over a part of an image's length.
 fn put(image: &mut [u8], first: u32, all: Numbers)
-    requires { ⌜ length (now image) ≡ 216 ⌝ }
+    requires { ⌜ length (now image) ≡ imageLength ⌝ }
     ensures { λ r. ⌜ now (image .exit) ≡ bytesOf (first ∷ all) ⌝ }
 {
     let start = [first; 1];
@@ -30,12 +34,12 @@ fn put(image: &mut [u8], first: u32, all: Numbers)
 
 // Stores a model's image over a part of its length.
 fn put_model(image: &mut [u8], m: Model)
-    requires { ⌜ length (now image) ≡ 216 ⌝ }
+    requires { ⌜ length (now image) ≡ imageLength ⌝ }
     ensures { λ r. ⌜ now (image .exit) ≡ imageOf m ⌝ }
 {
     match m {
         Model::Off => {
-            let none = [0u32; 53];
+            let none = [0u32; COUNT];
             put(image, 0, none)
         }
         Model::On(s) => put(image, FORMAT, c_list::list::numbers_of(s)),
@@ -46,7 +50,7 @@ fn put_model(image: &mut [u8], m: Model)
 pub fn save(image: &mut [u8], m: Model) -> bool
     ensures { λ r. ⌜ (r ≡ isLong (now (image .entry))) × (now (image .exit) ≡ savedIn (now (image .entry)) m) ⌝ }
 {
-    if image.len() != 216 {
+    if image.len() != LENGTH {
         return false;
     }
     put_model(image, m);
@@ -55,7 +59,7 @@ pub fn save(image: &mut [u8], m: Model) -> bool
 
 // The model that bytes of an image's length would be the image of.
 fn model_from(image: &[u8]) -> Model
-    requires { ⌜ length (now image) ≡ 216 ⌝ }
+    requires { ⌜ length (now image) ≡ imageLength ⌝ }
     ensures { λ r. ⌜ r ≡ modelFrom (now (image .entry)) ⌝ }
 {
     let mut first = [0u32; 1];
@@ -63,14 +67,14 @@ fn model_from(image: &[u8]) -> Model
     if first[0] == 0 {
         return Model::Off;
     }
-    let mut all = [0u32; 53];
+    let mut all = [0u32; COUNT];
     c_words::read(&image[4..], &mut all);
     Model::On(c_list::made::made(all))
 }
 
 // Whether bytes of an image's length are those of a first word and the numbers after it.
 fn holds(image: &[u8], first: u32, all: Numbers) -> bool
-    requires { ⌜ length (now image) ≡ 216 ⌝ }
+    requires { ⌜ length (now image) ≡ imageLength ⌝ }
     ensures { λ r. ⌜ r ≡ sameBytes (bytesOf (first ∷ all)) (now (image .entry)) ⌝ }
 {
     let start = [first; 1];
@@ -81,12 +85,12 @@ fn holds(image: &[u8], first: u32, all: Numbers) -> bool
 
 // Whether bytes of an image's length are a model's image.
 fn is_image(image: &[u8], m: Model) -> bool
-    requires { ⌜ length (now image) ≡ 216 ⌝ }
+    requires { ⌜ length (now image) ≡ imageLength ⌝ }
     ensures { λ r. ⌜ r ≡ sameBytes (imageOf m) (now (image .entry)) ⌝ }
 {
     match m {
         Model::Off => {
-            let none = [0u32; 53];
+            let none = [0u32; COUNT];
             holds(image, 0, none)
         }
         Model::On(s) => holds(image, FORMAT, c_list::list::numbers_of(s)),
@@ -97,7 +101,7 @@ fn is_image(image: &[u8], m: Model) -> bool
 pub fn load(image: &[u8]) -> Loaded
     ensures { λ r. ⌜ loadedTold r ≡ modelIn (now (image .entry)) ⌝ }
 {
-    if image.len() != 216 {
+    if image.len() != LENGTH {
         return Loaded::NoImage;
     }
     let model = model_from(image);

@@ -19,6 +19,7 @@ use Rattle.c_words.specs.Promises.{AllWords}
 use Rattle.c_words.specs.Same.{sameBytes}
 use Rattle.c_list.specs.Back.{stateFrom}
 use Rattle.c_list.specs.Promises.{Stored}
+use Rattle.c_list.specs.Places.{stateCount}
 use Rattle.c_image.specs.Images.{modelNumbers, imageOf, modelFrom, modelIn}
 use Rattle.c_image.specs.Promises.{Storable}
 use Rattle.c_image.proofs.ImageLaws.{one-image}
@@ -85,11 +86,11 @@ unfolding modelFrom
 from-storable bytes h = go (eqb (wordAt bytes 0) 0)
   where
     all : List ℕ
-    all = wordsIn 53 (drop 4 bytes)
+    all = wordsIn stateCount (drop 4 bytes)
 
     go : (off : Bool) → Storable (pick off Off (On (stateFrom all)))
     go true = tt
-    go false = made-storable all (all-words 53 (drop 4 bytes) (bytes-drop bytes 4 h))
+    go false = made-storable all (all-words stateCount (drop 4 bytes) (bytes-drop bytes 4 h))
 
 -- what loads was made from the bytes
 loads-from : (bytes : List ℕ) (m : Model) → modelIn bytes ≡ accepted m → modelFrom bytes ≡ m
