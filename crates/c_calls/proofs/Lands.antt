@@ -1,23 +1,15 @@
 -- What the functions of `landing` ask, over plain values.
 use Prim.Native.Nat.{ℕ, _≤_, _<_}
 use mathlib.Core.Path.{_≡_, refl}
-use mathlib.Core.Bool.{Bool, false}
 use mathlib.Core.List.{List}
 use native.Mathlib.Omega.{arith}
-use lib.Dec.{eqb}
 use lib.ListN.{length}
-use borrow.Author.Tests.{lt-ltb, le-ltb, eq-eqb}
-use Rattle.base.specs.Refusals.{refusalNumber}
+use borrow.Author.Tests.{lt-ltb, le-ltb, eq-eqb, ne-eqb}
 use Rattle.base.specs.Told.{Told, accepted, refused}
 use Rattle.base.specs.Writing.{put}
-use Rattle.base.specs.declared.refusal.Refusal.{Refusal}
-use Rattle.base.specs.declared.refusal.Refusal.the-variants.{EndsInside, ZeroGroup, TooLarge, UnknownKind, OutOfRange, NotPowered, StampAhead, UnknownSetting, BadValue, UnknownAddress, BadFrequency, NoRoom, InputTooLong, LogsPart}
-use Rattle.state_parts.specs.declared.state.State.{State}
 use Rattle.state_parts.specs.declared.state.Model.{Model}
-use Rattle.state_parts.specs.declared.state.Model.the-variants.{On}
-use Rattle.step_kinds.specs.Answers.{steppedTold}
-use Rattle.step_kinds.specs.declared.answer.Stepped.{Stepped}
-use Rattle.step_kinds.specs.declared.answer.Stepped.the-variants.{Accepted, Refused}
+use Rattle.step_event.specs.Plays.{cameTold}
+use Rattle.step_event.specs.declared.replaying.Came.{Came}
 use Rattle.c_words.specs.Words.{bytesOf}
 use Rattle.c_image.specs.Images.{imageLength, modelIn, loadedTold, savedIn}
 use Rattle.c_image.specs.declared.Loaded.{Loaded}
@@ -47,30 +39,13 @@ ready-long image room wanted m e = go (modelIn image) refl e
     go (accepted n) ex e = loaded-long image n ex
     go (refused n) ex e = absurd (let z : _≡_ {A = ℕ} 0 1 = cc in omega arith)
 
--- a refusal's number is never 0
-some-number : (r : Refusal) → eqb (refusalNumber r) 0 ≡ false
-some-number EndsInside = refl
-some-number ZeroGroup = refl
-some-number TooLarge = refl
-some-number UnknownKind = refl
-some-number OutOfRange = refl
-some-number NotPowered = refl
-some-number StampAhead = refl
-some-number UnknownSetting = refl
-some-number BadValue = refl
-some-number UnknownAddress = refl
-some-number BadFrequency = refl
-some-number NoRoom = refl
-some-number InputTooLong = refl
-some-number LogsPart = refl
-
-module _ (stepped : Stepped) (image shown : List ℕ) where
-  pub landed : (s : State) (pulse : Bool) (handed : ℕ) (numbers saved left : List ℕ) → stepped ≡ Accepted s pulse handed → length image ≡ imageLength
-      → numbers ≡ shownNumbers (On s) pulse handed → saved ≡ savedIn image (On s) → left ≡ put (bytesOf numbers) shown
-      → both 0 saved left ≡ landOf (steppedTold stepped) image shown
+module _ (came : Came) (image shown : List ℕ) where
+  pub landed : (numbers saved left : List ℕ) → came .last .number ≡ 0 → length image ≡ imageLength
+      → numbers ≡ shownNumbers (came .model) (came .last .pulse) (came .last .handed) → saved ≡ savedIn image (came .model) → left ≡ put (bytesOf numbers) shown
+      → both 0 saved left ≡ landOf (cameTold came) image shown
   unfolding landOf savedIn
-  landed s pulse handed numbers saved left e l en es el = rw (e, es, el, en, eq-eqb (length image) imageLength l)
+  landed numbers saved left e l en es el = rw (e, es, el, en, eq-eqb (length image) imageLength l)
 
-  pub not-landed : (r : Refusal) (place : ℕ) (m : Model) (n : ℕ) → stepped ≡ Refused r place m → n ≡ refusalNumber r → both n image shown ≡ landOf (steppedTold stepped) image shown
+  pub not-landed : (came .last .number ≡ 0 → ⊥) → both (came .last .number) image shown ≡ landOf (cameTold came) image shown
   unfolding landOf
-  not-landed r place m n e en = rw (e, en, some-number r)
+  not-landed h = rw (ne-eqb (came .last .number) 0 h)

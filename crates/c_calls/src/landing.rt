@@ -1,8 +1,7 @@
 // The model that a call starts with, and what an event leaves in the image and the answer buffer.
 ghost use mathlib.Core.Path.{_≡_};
 ghost use lib.ListN.{length};
-ghost use Rattle.step_kinds.specs.Answers.{steppedTold};
-ghost use Rattle.state_parts.specs.declared.state.Model.the-variants.{On};
+ghost use Rattle.step_event.specs.Plays.{cameTold};
 ghost use Rattle.c_image.specs.Images.{imageLength};
 ghost use Rattle.c_calls.specs.Landing.{both, shownNumbers, landOf, readyTold, readyOf};
 use base::choice;
@@ -13,8 +12,7 @@ use c_image::Loaded;
 use report_state::report;
 use state_parts::phase;
 use state_parts::state::Model;
-use state_parts::state::State;
-use step_kinds::answer::Stepped;
+use step_event::replaying::Came;
 
 // The model of an image, or why the call is refused before all else.
 pub enum Ready {
@@ -39,33 +37,38 @@ pub(crate) fn begin(image: &[u8], room: usize, wanted: usize) -> Ready
 // What an accepted event shows.
 type Shown = [u32; 7];
 
-fn shown_numbers(s: State, pulse: bool, handed: u32) -> Shown
-    ensures { λ r. ⌜ r ≡ shownNumbers (On s) pulse handed ⌝ }
+fn shown_numbers(m: Model, pulse: bool, handed: u32) -> Shown
+    ensures { λ r. ⌜ r ≡ shownNumbers m pulse handed ⌝ }
 {
-    let flags = s.flags;
-    let told = report::report(s);
-    let at = told.phase;
-    let pack = told.voltage;
-    let current = told.current;
-    let limit = told.limit;
-    let phase = phase::number(at);
-    let voltage = volts::millivolts(pack);
     let beat = choice::bit(pulse);
-    [phase, current, voltage, limit, beat, flags, handed]
+    match m {
+        Model::Off => [0, 0, 0, 0, beat, 0, handed],
+        Model::On(s) => {
+            let flags = s.flags;
+            let told = report::report(s);
+            let at = told.phase;
+            let pack = told.voltage;
+            let current = told.current;
+            let limit = told.limit;
+            let phase = phase::number(at);
+            let voltage = volts::millivolts(pack);
+            [phase, current, voltage, limit, beat, flags, handed]
+        }
+    }
 }
 
 // Leaves what an event came to in the image and the answer buffer: its number.
-pub(crate) fn land(image: &mut [u8], shown: &mut [u8], stepped: Stepped) -> u32
+pub(crate) fn land(image: &mut [u8], shown: &mut [u8], came: Came) -> u32
     requires { ⌜ length (now image) ≡ imageLength ⌝ }
-    ensures { λ r. ⌜ both r (now (image .exit)) (now (shown .exit)) ≡ landOf (steppedTold stepped) (now (image .entry)) (now (shown .entry)) ⌝ }
+    ensures { λ r. ⌜ both r (now (image .exit)) (now (shown .exit)) ≡ landOf (cameTold came) (now (image .entry)) (now (shown .entry)) ⌝ }
 {
-    match stepped {
-        Stepped::Accepted(s, pulse, handed) => {
-            let numbers = shown_numbers(s, pulse, handed);
-            c_words::write(shown, &numbers);
-            c_image::save(image, Model::On(s));
-            0
-        }
-        Stepped::Refused(r, _, _) => refusal::number(r),
+    let after = came.model;
+    let last = came.last;
+    if last.number != 0 {
+        return last.number;
     }
+    let numbers = shown_numbers(after, last.pulse, last.handed);
+    c_words::write(shown, &numbers);
+    c_image::save(image, after);
+    0
 }

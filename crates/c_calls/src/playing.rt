@@ -12,7 +12,7 @@ use c_event::Given;
 use log_event::kinds;
 use log_record::answer::Read;
 use state_parts::state::Model;
-use step_event::step;
+use step_event::replaying;
 
 // Makes the image of a model before its power-on.
 #[no_mangle]
@@ -88,7 +88,7 @@ pub extern "C" fn cheukdane_play(
                 return stopped(got, place);
             };
             let kind = kinds::byte(log_event::kind(e)) as u32;
-            let number = landing::land(image, shown, step::step(model, e));
+            let number = landing::land(image, shown, replaying::play(model, e));
             Played {
                 number,
                 kind,
@@ -123,7 +123,7 @@ pub extern "C" fn cheukdane_event(
                     Answer { number, place: 0 }
                 }
                 Given::Event(e) => {
-                    let number = landing::land(image, shown, step::step(model, e));
+                    let number = landing::land(image, shown, replaying::play(model, e));
                     Answer { number, place: 0 }
                 }
             }

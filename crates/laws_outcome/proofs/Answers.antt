@@ -1,4 +1,4 @@
--- What is told settles the answers of the table of kinds, of registers, of changes and of a walk.
+-- What is told settles the answers of the table of kinds, of registers, of changes, of an event and of a walk.
 use Prim.Native.Nat.{ℕ}
 use mathlib.Core.Path.{_≡_, refl, ap}
 use native.Mathlib.Omega.{arith}
@@ -14,11 +14,15 @@ use Rattle.state_registers.specs.declared.reading.ReadAnswer.the-variants as re
 use Rattle.state_registers.specs.declared.writing.WriteAnswer.the-variants as writing
 use Rattle.base.specs.Told.{Told, accepted, refused}
 use Rattle.state_parts.specs.declared.state.State.{State}
+use Rattle.state_parts.specs.declared.state.Model.{Model}
+use Rattle.state_parts.specs.declared.state.Model.the-variants.{Off, On}
+use Rattle.step_kinds.specs.Answers.{finishedTold}
 use Rattle.step_kinds.specs.Changes.{Changed, changeTold}
 use Rattle.step_kinds.specs.declared.change.Way.{Way}
 use Rattle.step_kinds.specs.declared.change.Change.the-variants.{Made, Refused}
 use Rattle.step_event.specs.Pages.{stopTold}
 use Rattle.step_event.specs.declared.paging.Stop.the-variants as stop
+use Rattle.step_event.specs.Plays.{cameTold}
 use Rattle.step_event.specs.Walks.{walkedTold}
 use Rattle.step_event.specs.declared.walking.Walked.the-variants.{Record, End, Unreadable}
 use Rattle.laws_outcome.specs.One.{Settled}
@@ -44,6 +48,16 @@ write-settled (writing.Stored a) (writing.Stored b) e = cc
 write-settled (writing.Stored a) (writing.Refused r) e = absurd (let z : _≡_ {A = ℕ} 0 1 = cc in omega arith)
 write-settled (writing.Refused r) (writing.Stored b) e = absurd (let z : _≡_ {A = ℕ} 0 1 = cc in omega arith)
 write-settled (writing.Refused r) (writing.Refused s) e = let n : refusalNumber r ≡ refusalNumber s = cc in ap writing.Refused (refusal-one r s n)
+
+abbrev stateAfter : State → Model → State
+stateAfter other Off = other
+stateAfter other (On s) = s
+
+pub finished-settled : Settled finishedTold
+finished-settled a b e = λ i. record { state = stateAfter (a .state) (e i .model); pulse = e i .pulse; handed = e i .handed }
+
+pub came-settled : Settled cameTold
+came-settled a b e = λ i. record { model = e i .model; last = record { number = e i .number; pulse = e i .pulse; handed = e i .handed } }
 
 pub walk-settled : Settled walkedTold
 walk-settled (Record a) (Record b) e = cc

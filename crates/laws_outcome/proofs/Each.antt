@@ -19,7 +19,7 @@ use Rattle.step_event.specs.declared.walking.Walk.{Walk}
 use Rattle.step_event.specs.declared.paging.Page.{Page}
 use Rattle.laws_outcome.specs.Calls.{Turned, CodecCalls, ReaderCalls, ModelCalls, LogsCalls, FirmwareCalls, TextCalls}
 use Rattle.laws_outcome.proofs.Settling.{contract-settles, contract-settles-bytes, itself-settles}
-use Rattle.laws_outcome.proofs.Answers.{known-settled, read-settled, write-settled, change-settled, stop-settled, walk-settled}
+use Rattle.laws_outcome.proofs.Answers.{known-settled, read-settled, write-settled, change-settled, finished-settled, came-settled, stop-settled, walk-settled}
 
 -- a result that is what a definition gives
 plain : {A : Type 0} → (given : A) → One (Tells itself given)
@@ -91,8 +91,9 @@ model-calls =
       opened = λ p. contract-settles _ _ _ change-settled _;
       set = λ s number value. contract-settles _ _ _ change-settled _;
       write-event = λ s address byte. contract-settles _ _ _ change-settled _;
-      finish = λ before written way. contract-settles _ _ _ step-once _;
+      finish = λ before written way. contract-settles _ _ _ finished-settled _;
       step = λ m e. contract-settles _ _ _ step-once _;
+      play = λ m e. contract-settles _ _ _ came-settled _;
       walk = λ log w. contract-settles _ _ _ walk-settled _;
       start = plain _;
       replay = λ log from. plain _;

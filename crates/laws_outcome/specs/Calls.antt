@@ -27,7 +27,7 @@ use Rattle.state_registers.specs.Reads as reads
 use Rattle.state_registers.specs.Writes.{writeTold, writeOf}
 use Rattle.state_registers.specs.Resets.{resetOf}
 use Rattle.step_flags.specs.declared.between.Seen.{Seen}
-use Rattle.step_kinds.specs.Answers.{steppedTold}
+use Rattle.step_kinds.specs.Answers.{finishedTold, steppedTold}
 use Rattle.step_kinds.specs.Changes.{changeTold}
 use Rattle.step_kinds.specs.Finish.{finishOf}
 use Rattle.step_kinds.specs.Plain.{openedAs, setOf, writtenOf}
@@ -49,6 +49,7 @@ use Rattle.c_image.specs.Images.{loadedTold, modelIn, isLong, savedIn}
 use Rattle.c_calls.specs.Playing.{offOf, playOf, eventCallOf}
 use Rattle.c_calls.specs.Replaying.{replayOf}
 use Rattle.step_event.specs.Rests.{endedOf}
+use Rattle.step_event.specs.Plays.{cameTold}
 use Rattle.c_calls.specs.Showing.{reportCallOf, registerOf}
 use Rattle.c_calls.specs.Writing.{writeCallOf}
 use Rattle.c_calls.specs.Comparing.{compareCallOf}
@@ -90,8 +91,9 @@ pub record ModelCalls : Type 0 where
   pub opened : (p : Profile) → One (Tells changeTold (openedAs p))
   pub set : (s : State) (number value : ℕ) → One (Tells changeTold (setOf s number value))
   pub write-event : (s : State) (address byte : ℕ) → One (Tells changeTold (writtenOf s address byte))
-  pub finish : (before : Seen) (written : State) (way : Way) → One (Tells steppedTold (finishOf before written way))
+  pub finish : (before : Seen) (written : State) (way : Way) → One (Tells finishedTold (finishOf before written way))
   pub step : (m : Model) (e : Event) → One (Tells steppedTold (stepOf m e))
+  pub play : (m : Model) (e : Event) → One (Tells cameTold (stepOf m e))
   pub walk : (log : List ℕ) (w : Walk) → One (Tells walkedTold (walkOf log w))
   pub start : One (Tells itself startWalk)
   pub replay : (log : List ℕ) (from : Walk) → One (Tells itself (endedOf log from))

@@ -10,3 +10,4 @@ pub mod Turning
 pub mod Joining
 pub mod Moves
 pub mod Resting
+pub mod Playing

@@ -2,7 +2,7 @@
 ghost use mathlib.Core.Path.{_≡_};
 ghost use mathlib.Core.Bool.{true};
 ghost use Rattle.state_valid.specs.Holds.{stateOk};
-ghost use Rattle.step_kinds.specs.Answers.{steppedTold};
+ghost use Rattle.step_kinds.specs.Answers.{verdictTold, steppedTold};
 ghost use Rattle.step_kinds.specs.Changes.{changeTold};
 ghost use Rattle.step_event.specs.Steps.{observeOf, followedOf, movedOf, firstOf, changeOf, modelOk, nothingSeen, seenOn, turnedBy, stepOf};
 use crate::clock;
@@ -17,6 +17,7 @@ use state_valid::holds;
 use step_flags::between;
 use step_flags::between::Seen;
 use step_kinds::answer::Stepped;
+use step_kinds::answer::Verdict;
 use step_kinds::change::Change;
 use step_kinds::change::Way;
 use step_kinds::finish;
@@ -133,22 +134,22 @@ fn seen_on(m: Model) -> Seen
 }
 
 // What a turn comes to, on a model of which it is known whether it holds what it may.
-fn turned(ok: bool, m: Model, t: Turn) -> Stepped
+fn turned(ok: bool, m: Model, t: Turn) -> Verdict
     requires { ⌜ ok ≡ modelOk m ⌝ }
-    ensures { λ r. ⌜ steppedTold r ≡ turnedBy m t ⌝ }
+    ensures { λ r. ⌜ verdictTold m r ≡ turnedBy m t ⌝ }
 {
     let before = seen_on(m);
     let made = change(ok, m, t);
     match made {
-        Change::Made(written, way) => finish::finish(before, written, way),
-        Change::Refused(r) => Stepped::Refused(r, 0, m),
+        Change::Made(written, way) => Verdict::Accepted(finish::finish(before, written, way)),
+        Change::Refused(r) => Verdict::Refused(r),
     }
 }
 
 // An event on a model of which it is known whether it holds what it may.
-pub(crate) fn step_known(ok: bool, m: Model, e: Event) -> Stepped
+pub(crate) fn step_known(ok: bool, m: Model, e: Event) -> Verdict
     requires { ⌜ ok ≡ modelOk m ⌝ }
-    ensures { λ r. ⌜ steppedTold r ≡ stepOf m e ⌝ }
+    ensures { λ r. ⌜ verdictTold m r ≡ stepOf m e ⌝ }
 {
     turned(ok, m, turn::turn_of(e))
 }
@@ -157,5 +158,12 @@ pub(crate) fn step_known(ok: bool, m: Model, e: Event) -> Stepped
 pub fn step(m: Model, e: Event) -> Stepped
     ensures { λ r. ⌜ steppedTold r ≡ stepOf m e ⌝ }
 {
-    step_known(model_ok(m), m, e)
+    let verdict = step_known(model_ok(m), m, e);
+    match verdict {
+        Verdict::Accepted(f) => {
+            let state = f.state;
+            Stepped::Accepted(state, f.pulse, f.handed)
+        }
+        Verdict::Refused(r) => Stepped::Refused(r, 0, m),
+    }
 }

@@ -1,9 +1,9 @@
 // What every accepted event ends with: it settles, and its edges join the flags and may pulse.
 ghost use mathlib.Core.Path.{_≡_};
 ghost use Rattle.state_parts.specs.With.{withFlags};
-ghost use Rattle.step_kinds.specs.Answers.{steppedTold};
+ghost use Rattle.step_kinds.specs.Answers.{finishedTold};
 ghost use Rattle.step_kinds.specs.Finish.{observing, keptBy, handedBy, pulsesBy, finishOf};
-use crate::answer::Stepped;
+use crate::answer::Finished;
 use crate::change::Way;
 use settle_all::settle;
 use state_parts::flags;
@@ -69,8 +69,8 @@ fn flagged(s: State, f: u32) -> State
 }
 
 // Settles what an event wrote; `before` is what was seen of the state before it.
-pub fn finish(before: Seen, written: State, way: Way) -> Stepped
-    ensures { λ r. ⌜ steppedTold r ≡ finishOf before written way ⌝ }
+pub fn finish(before: Seen, written: State, way: Way) -> Finished
+    ensures { λ r. ⌜ finishedTold r ≡ finishOf before written way ⌝ }
 {
     let held = written.flags;
     let observed = observing(way);
@@ -84,5 +84,9 @@ pub fn finish(before: Seen, written: State, way: Way) -> Stepped
     let state = flagged(after, kept);
     let edge = flags::pulse(edges, masks);
     let pulse = pulses_by(way, edge);
-    Stepped::Accepted(state, pulse, handed)
+    Finished {
+        state,
+        pulse,
+        handed,
+    }
 }

@@ -35,8 +35,8 @@ returns-2 c =
 returns-3 : tie.Need-returns-3
 returns-3 c =
     let at-land = c .before .before .before .before in
-    let at-step = at-land .before in
-    let at-got2 = at-step .before .before .before .before in
+    let at-play = at-land .before in
+    let at-got2 = at-play .before .before .before .before in
     let at-event-of = at-got2 .before .before in
     let at-ready2 = at-event-of .before .before in
     let at-begin = at-ready2 .before .before in
@@ -44,7 +44,7 @@ returns-3 c =
     let m = at-ready2 .ready2 .given in
     let g = at-got2 .got2 .given in
     let l = at-land .land in
-    was-given (a .args .image .now) (a .args .kind) (a .args .bytes .now) (a .args .shown .now) (at-begin .begin .result) (at-begin .begin .ensures) (m .0 .0) (at-event-of .event-of .result) (g .0 .0) (l .result) _ (l .last .0) (l .last .1 .0) (m .1) (at-event-of .event-of .ensures) (g .1) (at-step .step .ensures) (l .ensures)
+    was-given (a .args .image .now) (a .args .kind) (a .args .bytes .now) (a .args .shown .now) (at-begin .begin .result) (at-begin .begin .ensures) (m .0 .0) (at-event-of .event-of .result) (g .0 .0) (l .result) _ (l .last .0) (l .last .1 .0) (m .1) (at-event-of .event-of .ensures) (g .1) (at-play .play .ensures) (l .ensures)
 
 pub cheukdane-event-spec : {M : Type 1} → statement M
 cheukdane-event-spec =

@@ -33,8 +33,8 @@ returns-2 c =
 returns-3 : tie.Need-returns-3
 returns-3 c =
     let at-land = c .before .before .before .before in
-    let at-step = at-land .before in
-    let at-byte = at-step .before .before .before in
+    let at-play = at-land .before in
+    let at-byte = at-play .before .before .before in
     let at-kind = at-byte .before in
     let at-got = at-kind .before .before in
     let at-read = at-got .before .before in
@@ -45,7 +45,7 @@ returns-3 c =
     let g = at-got .got .given in
     let l = at-land .land in
     played-there (a .args .image .now) (a .args .log .now) (a .args .place) (a .args .shown .now) (at-begin .begin .result) (at-begin .begin .ensures) (m .0 .0) (at-read .read .result) (g .0 .0) (g .0 .1 .0) (at-byte .byte .result) (l .result) _ (l .last .0) (l .last .1 .0)
-    (m .1) (at-read .read .ensures) (g .1) (at-byte .byte .ensures ∙ ap kindByte (at-kind .kind .ensures)) (at-step .step .ensures) (l .ensures)
+    (m .1) (at-read .read .ensures) (g .1) (at-byte .byte .ensures ∙ ap kindByte (at-kind .kind .ensures)) (at-play .play .ensures) (l .ensures)
 
 pub cheukdane-play-spec : {M : Type 1} → statement M
 cheukdane-play-spec =
