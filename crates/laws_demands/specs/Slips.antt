@@ -14,14 +14,16 @@ use Rattle.state_parts.specs.declared.sample.Sample.{Sample}
 use Rattle.state_parts.specs.declared.state.State.{State}
 use Rattle.state_parts.specs.declared.state.Model.{Model}
 use Rattle.state_parts.specs.declared.state.Model.the-variants.{Off, On}
-use Rattle.log_event.specs.declared.Event.{Event}
-use Rattle.log_event.specs.declared.Event.the-variants.{PowerOn, Set, Write, TakeFlags, Observe, Service, Reset}
 use Rattle.settle_bands.specs.Thresholds.{th2Of, tsOff, jeitaOn, bandOf}
 use Rattle.settle_bands.specs.Effect.{shareOf}
 use Rattle.settle_all.specs.Gather.{testsOf}
 use Rattle.settle_all.specs.Settle.{settledOf, settleOf}
 use Rattle.report_state.specs.Report.{trickleCurrent, currentIn, fastCurrent, reportOf}
-use Rattle.step_turns.specs.Turns.{heldSample}
+use Rattle.step_turns.specs.Turns.{turnOf}
+use Rattle.step_turns.specs.declared.later.Later.{Later}
+use Rattle.step_turns.specs.declared.later.Later.the-variants.{Set, Write, TakeFlags, Observe, Service, Reset}
+use Rattle.step_turns.specs.declared.turn.Turn.{Turn}
+use Rattle.step_turns.specs.declared.turn.Turn.the-variants.{Opens, Follows, OpensOutside, FollowsOutside}
 use Rattle.step_flags.specs.Edges.{seenOf}
 use Rattle.step_kinds.specs.Answers.{Outcome}
 use Rattle.step_kinds.specs.Finish.{finishOf}
@@ -36,18 +38,23 @@ use Rattle.laws_demands.specs.Wrong.{withModel}
 abbrev pub withOverride : Bool → Registers → Registers
 withOverride stands g = withOverrides g (g .vchgoverride) stands (g .ichgoverride)
 
-abbrev pub asWritten : Event → State → State
-asWritten (PowerOn p) s = s
-asWritten (Set number value) s = s
-asWritten (Write address byte) s = pick (eqb address (cellOverride .address)) (withRegisters s (withOverride (eqb (digitOf cellOverride byte) 1) (s .registers))) s
-asWritten TakeFlags s = s
-asWritten (Observe x) s = s
-asWritten Service s = s
-asWritten Reset s = s
+abbrev laterWritten : Later → State → State
+laterWritten (Set number value) s = s
+laterWritten (Write address byte) s = pick (eqb address (cellOverride .address)) (withRegisters s (withOverride (eqb (digitOf cellOverride byte) 1) (s .registers))) s
+laterWritten TakeFlags s = s
+laterWritten (Observe x) s = s
+laterWritten Service s = s
+laterWritten Reset s = s
+
+abbrev pub asWritten : Turn → State → State
+asWritten (Opens p) s = s
+asWritten (Follows later) s = laterWritten later s
+asWritten OpensOutside s = s
+asWritten FollowsOutside s = s
 
 unfoldable pub sameWrite : Step
 sameWrite Off e = stepOf Off e
-sameWrite (On s) e = stepOf (On (asWritten e s)) e
+sameWrite (On s) e = stepOf (On (asWritten (turnOf e) s)) e
 
 -- "scaling precharge by ICHG's band share"
 unfoldable pub scalesPrecharge : Reporter
@@ -64,18 +71,23 @@ chargedAfter s x =
     let observed = observedOf s x in
     withCycle observed (timesOf (s .profile) (settleOf observed true .phase) (unitsOf (s .sample) (elapsedOf (s .sample .stamp) (x .stamp))) (s .cycle))
 
-abbrev pub timedBy : State → Event → Outcome → Outcome
-timedBy s (PowerOn p) o = o
-timedBy s (Set number value) o = o
-timedBy s (Write address byte) o = o
-timedBy s TakeFlags o = o
-timedBy s (Observe x) o = pick (eqb (o .number) 0) (finishOf (seenOf s) (chargedAfter s (heldSample x)) Observes) o
-timedBy s Service o = o
-timedBy s Reset o = o
+abbrev laterTimed : State → Later → Outcome → Outcome
+laterTimed s (Set number value) o = o
+laterTimed s (Write address byte) o = o
+laterTimed s TakeFlags o = o
+laterTimed s (Observe x) o = pick (eqb (o .number) 0) (finishOf (seenOf s) (chargedAfter s x) Observes) o
+laterTimed s Service o = o
+laterTimed s Reset o = o
+
+abbrev pub timedBy : State → Turn → Outcome → Outcome
+timedBy s (Opens p) o = o
+timedBy s (Follows later) o = laterTimed s later o
+timedBy s OpensOutside o = o
+timedBy s FollowsOutside o = o
 
 unfoldable pub timesAfter : Step
 timesAfter Off e = stepOf Off e
-timesAfter (On s) e = timedBy s e (stepOf (On s) e)
+timesAfter (On s) e = timedBy s (turnOf e) (stepOf (On s) e)
 
 -- "judging cool before cold": what an event leaves is judged again by that band
 unfoldable pub coolFirst : Profile → Registers → ℕ → Band
