@@ -21,10 +21,10 @@
  * Stack, in bytes along the deepest chain of calls, of the module's object code for aarch64 (`make bench` prints them
  * for the machine at hand). No call calls itself.
  *
- *     replay 2,288    play     1,728    event 1,632
- *     report 1,296    register 1,008
+ *     play   2,240    event    2,208    replay 2,128
+ *     report   816    register   608
  *     compare  480    write      160
- *     off        0    rules        0
+ *     off      192    rules        0
  */
 #ifndef CHEUKDANE_H
 #define CHEUKDANE_H
