@@ -16,7 +16,7 @@ run: runlog
 test:
 	@scripts/test
 
-# The must-fail edits that are too dear for `make test`: some five minutes.
+# The must-fail edits that are too dear for `make test`: a quarter of an hour.
 deep:
 	@scripts/deep
 
