@@ -1,0 +1,36 @@
+-- The paper's own bytes, by the format.
+use mathlib.Core.Path.{refl}
+use mathlib.Core.List.{[], _∷_}
+use native.Mathlib.Omega.{arith}
+use borrow.Author.Needs.{needs}
+use Rattle.log_number.specs.Number.{spell, groups}
+use Rattle.log_event.specs.declared.Event.the-variants.{PowerOn, Set, Write, TakeFlags, Observe, Service, Reset}
+use Rattle.log_record.specs.Items.{spellItems}
+use Rattle.log_record.specs.Records.{spellEvent}
+use Rattle.laws_format.specs.Format.{none, below-zero}
+use Rattle.laws_format.specs.Format as format
+use Rattle.laws_format.specs.Unreadable.{cut-off, five-high, too-large, zero-last, no-kind, stopped}
+use Rattle.laws_format.specs.Rows.{PaperBytes}
+use Rattle.laws_format.proofs.Formats.{grouped, spelled}
+
+pub paper-bytes : PaperBytes
+unfolding spellEvent spellItems spell groups
+paper-bytes = record {
+  powerOn = spelled (PowerOn _) (search needs);
+  observation = spelled (Observe _) (search needs);
+  minusOne = below-zero 0;
+  zeroGroup = zero-last (0x80 ∷ []) [] (search needs) (omega arith) (omega arith);
+  numberByNumber = stopped 2 2 _ _ [] [] _ (format.set 0 0) none (omega arith) (zero-last (0x80 ∷ []) [] (search needs) (omega arith) (omega arith));
+  theLargest = grouped 4294967295;
+  oneMore = too-large 4294967296 (0x80 ∷ 0x80 ∷ 0x80 ∷ 0x80 ∷ 0x10 ∷ []) [] (grouped 4294967296) (omega arith);
+  fiveHigh = five-high (0x80 ∷ 0x80 ∷ 0x80 ∷ 0x80 ∷ 0x80 ∷ []) [] (search needs) refl;
+  fourHigh = cut-off (0xFF ∷ 0xFF ∷ 0xFF ∷ 0xFF ∷ []) (search needs) (omega arith);
+  fourAndZero = zero-last (0x80 ∷ 0x80 ∷ 0x80 ∷ 0x80 ∷ []) [] (search needs) (omega arith) (omega arith);
+  kindZero = no-kind 0 [] (λ a. omega (arith, a .0));
+  kindEight = no-kind 8 [] (λ a. omega (arith, a .1));
+  set = spelled (Set 1 8400) (search needs);
+  write = spelled (Write 0x1B 0x42) (search needs);
+  takeFlags = spelled TakeFlags tt;
+  service = spelled Service tt;
+  reset = spelled Reset tt;
+}

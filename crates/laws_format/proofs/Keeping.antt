@@ -1,0 +1,83 @@
+-- This product's reader and writer keep the format.
+use Prim.Native.Nat.{ℕ, _+_, _≤_, _<_}
+use mathlib.Core.Path.{_≡_, refl, ap, _∙_, subst}
+use mathlib.Core.List.{List, [], _++_}
+use native.Mathlib.Omega.{arith}
+use lib.ListN.{length, drop, length-drop, drop-of-length-le}
+use lib.Seq.{drop-append-seam}
+use borrow.Author.Tests.{le-leb, lt-leb}
+use Rattle.base.specs.Writing.{Wrote, wrote, written, put}
+use Rattle.base.specs.Writing as writing
+use Rattle.log_number.specs.Promises.{Bytes}
+use Rattle.log_event.specs.Kinds.{kinds}
+use Rattle.log_event.specs.declared.Event.{Event}
+use Rattle.log_record.specs.Records.{spellEvent, Met, met, refused, end, placed, readRecord, recordAt}
+use Rattle.log_record.proofs.ItemLaws.{bytes-drop}
+use Rattle.log_record.proofs.RecordLaws.{reads-back, one-spelling}
+use Rattle.laws_format.specs.Unreadable.{NoRecord, LogRow}
+use Rattle.laws_format.specs.Readers.{Stands}
+use Rattle.laws_format.specs.Ours.{ourRead, OurReads, OurWrites}
+use Rattle.laws_format.proofs.Formats.{spells-are, spelled}
+use Rattle.laws_format.proofs.RecordsRefused.{Recorded, a-record, no-record, no-byte, recorded, refused-record}
+
+only : (bytes : List ℕ) → Bytes bytes → (at : ℕ) (e : Event) (next : ℕ) → ourRead bytes at ≡ met e next → Stands bytes at e next
+only bytes bs at e next m =
+    let k = one-spelling bytes bs at e next m in
+    record { spelling = spellEvent e; spells = spelled e (k .fits); long = k .long; start = k .start }
+
+row-of : (at n place : ℕ) {s : List ℕ} {x : Met} → Recorded s x → placed at x ≡ refused n place → NoRecord n s × (place ≡ at)
+row-of at n place (a-record s e c) m = absurd (let z : _≡_ {A = ℕ} 0 1 = cc in omega arith)
+row-of at n place (no-record k s row) m =
+    let same : k ≡ n = cc in
+    let there : at + 0 ≡ place = cc in
+    (subst (λ (j : ℕ). NoRecord j s) same row, omega arith)
+row-of at n place no-byte m = absurd (let z : _≡_ {A = ℕ} 0 1 = cc in omega arith)
+
+none-left : (at : ℕ) {s : List ℕ} {x : Met} → Recorded s x → placed at x ≡ end → s ≡ []
+none-left at (a-record s e c) m = absurd (let z : _≡_ {A = ℕ} 0 1 = cc in omega arith)
+none-left at (no-record k s row) m = absurd (let z : _≡_ {A = ℕ} 0 1 = cc in omega arith)
+none-left at no-byte m = refl
+
+module _ (bytes : List ℕ) (bs : Bytes bytes) (at : ℕ) where
+  here : Recorded (drop at bytes) (readRecord kinds (drop at bytes))
+  here = recorded (drop at bytes) (bytes-drop bytes at bs)
+
+  row : (n place : ℕ) → ourRead bytes at ≡ refused n place → LogRow n bytes at × (place ≡ at)
+  unfolding recordAt
+  row n place m = row-of at n place here m
+
+  given : (n place : ℕ) → LogRow n bytes at × (place ≡ at) → ourRead bytes at ≡ refused n place
+  unfolding recordAt
+  given n place r = let there : at + 0 ≡ place = omega (arith, r .1) in ap (placed at) (refused-record (r .0)) ∙ ap (λ p. refused n p) there
+
+  at-end : ourRead bytes at ≡ end → length bytes ≤ at
+  unfolding recordAt
+  at-end m = let k = ap length (none-left at here m) in omega (arith, length-drop at bytes)
+
+  past-end : length bytes ≤ at → ourRead bytes at ≡ end
+  unfolding recordAt readRecord
+  past-end h = rw (drop-of-length-le bytes h)
+
+pub our-reads : OurReads
+unfolding recordAt
+our-reads = record {
+  back = λ e spelling sp before rest. let k = spells-are sp in rw (k .0) (simp (drop-append-seam, reads-back e (k .1) rest));
+  only = only;
+  refuses = λ bytes bs at n place. (row bytes bs _ _ _, given bytes bs _ _ _);
+  ends = λ bytes bs at. (at-end bytes bs at, past-end bytes bs at);
+}
+
+write-all : (bytes buffer : List ℕ) → length bytes ≤ length buffer
+    → _≡_ {A = Wrote × List ℕ} (written bytes buffer, put bytes buffer) (wrote (length bytes), bytes ++ drop (length bytes) buffer)
+unfolding written put
+write-all bytes buffer room = simp (le-leb (length bytes) (length buffer) room)
+
+write-none : (bytes buffer : List ℕ) → length buffer < length bytes → _≡_ {A = Wrote × List ℕ} (written bytes buffer, put bytes buffer) (writing.refused 12 0, buffer)
+unfolding written put
+write-none bytes buffer short = simp (lt-leb (length bytes) (length buffer) short)
+
+pub our-writes : OurWrites
+our-writes = record {
+  written = λ e spelling sp buffer room. rw (← spells-are sp .0) (write-all spelling buffer (omega arith));
+  no-room = λ e spelling sp buffer short. rw (← spells-are sp .0) (write-none spelling buffer (omega arith));
+}

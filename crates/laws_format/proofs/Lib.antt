@@ -1,0 +1,7 @@
+-- The laws of the crate `laws_format`.
+pub mod Formats
+pub mod NumbersRefused
+pub mod RecordsRefused
+pub mod Keeping
+pub mod Only
+pub mod Examples

@@ -1,0 +1,67 @@
+-- Whoever keeps the format reads and writes as this product does, so the format says one thing at each place.
+use Prim.Native.Nat.{ℕ, zero, suc, _+_, _≤_, _<_}
+use mathlib.Core.Path.{_≡_, refl, sym, ap, _∙_, subst}
+use mathlib.Core.List.{List, [], _∷_, _++_}
+use native.Mathlib.Omega.{arith}
+use native.Mathlib.Decide.{decLt}
+use lib.ListN.{length, take, drop, length-append, length-drop}
+use lib.Seq.{length-take-le}
+use Rattle.log_number.specs.Promises.{Bytes}
+use Rattle.log_event.specs.declared.Event.{Event}
+use Rattle.log_record.specs.Records.{Met, met, refused, end}
+use Rattle.log_record.proofs.RecordLaws.{some-long}
+use Rattle.laws_format.specs.Readers.{Reader, Stands, Reads}
+use Rattle.laws_format.specs.Ours.{ourRead, ourWrite, OnlyReader, OnlyWriter, Answer, event, unreadable, over, OneAnswer}
+use Rattle.laws_format.proofs.Formats.{spells-are}
+use Rattle.laws_format.proofs.Keeping.{our-reads, our-writes}
+
+split : {A : Type 0} (n : ℕ) (l : List A) → take n l ++ drop n l ≡ l
+split zero l = refl
+split (suc n) [] = refl
+split (suc n) (a ∷ l) = ap (λ t. a ∷ t) (split n l)
+
+-- a record has a byte, so it stands within the log
+inside : {bytes : List ℕ} {at : ℕ} {e : Event} {next : ℕ} → Stands bytes at e next → at ≤ length bytes
+inside {bytes} {at} {e} {next} k =
+    let some = subst (λ l. 0 < length l) (sym (spells-are (k .spells) .0)) (some-long e) in
+    let long = ap length (k .start) ∙ length-append (k .spelling) (drop next bytes) in
+    omega (arith, length-drop at bytes)
+
+-- what stands at a place is read there
+stands : (read : Reader) → Reads read → (bytes : List ℕ) (at : ℕ) (e : Event) (next : ℕ) → Stands bytes at e next → read bytes at ≡ met e next
+stands read d bytes at e next k =
+    let long : length (take at bytes) ≡ at = length-take-le at bytes (inside k) in
+    let whole : take at bytes ++ (k .spelling ++ drop next bytes) ≡ bytes = ap (λ l. take at bytes ++ l) (sym (k .start)) ∙ split at bytes in
+    let there : read (take at bytes ++ (k .spelling ++ drop next bytes)) (length (take at bytes)) ≡ met e (length (take at bytes) + length (k .spelling)) =
+    d .back e (k .spelling) (k .spells) (take at bytes) (drop next bytes) in
+    rw (whole, long, ← k .long) at there
+
+-- and so is whatever the format says
+answer-is : (read : Reader) → Reads read → (bytes : List ℕ) → Bytes bytes → (at : ℕ) {x : Met} → Answer bytes at x → read bytes at ≡ x
+answer-is read d bytes bs at (event e next k) = stands read d bytes at e next k
+answer-is read d bytes bs at (unreadable n row) = d .refuses bytes bs at n at .1 (row, refl)
+answer-is read d bytes bs at (over late) = d .ends bytes bs at .1 late
+
+answered : (bytes : List ℕ) → Bytes bytes → (at : ℕ) → Answer bytes at (ourRead bytes at)
+answered bytes bs at = by (ourRead bytes at) refl
+  where
+    by : (x : Met) → ourRead bytes at ≡ x → Answer bytes at x
+    by (met e next) m = event e next (our-reads .only bytes bs at e next m)
+    by (refused n place) m = let k = our-reads .refuses bytes bs at n place .0 m in rw (k .1) (unreadable n (k .0))
+    by end m = over (our-reads .ends bytes bs at .0 m)
+
+pub one-answer : OneAnswer
+one-answer = record {
+  some = λ bytes bs at. (ourRead bytes at, answered bytes bs at);
+  one = λ bytes bs at x y a b. sym (answer-is ourRead our-reads bytes bs at a) ∙ answer-is ourRead our-reads bytes bs at b;
+}
+
+pub only-reader : OnlyReader
+only-reader read d bytes bs at = answer-is read d bytes bs at (answered bytes bs at)
+
+pub only-writer : OnlyWriter
+only-writer write d e spelling sp buffer = by (decLt (length buffer) (length spelling))
+  where
+    by : Dec (length buffer < length spelling) → write e buffer ≡ ourWrite e buffer
+    by (yes short) = d .no-room e spelling sp buffer short ∙ sym (our-writes .no-room e spelling sp buffer short)
+    by (no fit) = d .written e spelling sp buffer (omega arith) ∙ sym (our-writes .written e spelling sp buffer (omega arith))

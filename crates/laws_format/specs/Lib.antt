@@ -1,0 +1,6 @@
+-- The definitions of the crate `laws_format`.
+pub mod Format
+pub mod Unreadable
+pub mod Readers
+pub mod Ours
+pub mod Rows

@@ -1,0 +1,37 @@
+-- The paper's own bytes: what its examples spell, and what can't be read.
+use mathlib.Core.List.{[], _∷_}
+use lib.IntN.{pos, negsuc}
+use Rattle.log_event.specs.declared.Event.the-variants.{PowerOn, Set, Write, TakeFlags, Observe, Service, Reset}
+use Rattle.laws_format.specs.Format.{Groups, Ibat, Spells}
+use Rattle.laws_format.specs.Unreadable.{NoNumber, NoRecord}
+
+pub record PaperBytes : Type 0 where
+  -- "01 02 05 04 00 00 94 23 90 1C A0 38 A0 99 02 00 05 E8 07 E0 5D B0 3B 00 D8 AD 03 00": a power-on and an observation
+  pub powerOn : Spells
+      (PowerOn (record { cell = 2; vchg = 5; ichg = 4; ohms = 0; stamp = 0; ceiling = 4500; trickle = 3600; precharge = 7200; fast = 36000; watchdog = 0 }))
+      (0x01 ∷ 0x02 ∷ 0x05 ∷ 0x04 ∷ 0x00 ∷ 0x00 ∷ 0x94 ∷ 0x23 ∷ 0x90 ∷ 0x1C ∷ 0xA0 ∷ 0x38 ∷ 0xA0 ∷ 0x99 ∷ 0x02 ∷ 0x00 ∷ [])
+  pub observation : Spells
+      (Observe (record { stamp = 1000; input = 12000; pack = 7600; ibat = pos 0; ts = 55000; bits = 0 }))
+      (0x05 ∷ 0xE8 ∷ 0x07 ∷ 0xE0 ∷ 0x5D ∷ 0xB0 ∷ 0x3B ∷ 0x00 ∷ 0xD8 ∷ 0xAD ∷ 0x03 ∷ 0x00 ∷ [])
+  -- "IBAT -1 logs 01"
+  pub minusOne : Ibat (negsuc 0) 0x01
+  -- "number `80 00` is 2"
+  pub zeroGroup : NoNumber 2 (0x80 ∷ 0x00 ∷ [])
+  -- "number by number": `02 80 00` is 2, not 1
+  pub numberByNumber : NoRecord 2 (0x02 ∷ 0x80 ∷ 0x00 ∷ [])
+  -- "4,294,967,295" is the largest, and one more is 3
+  pub theLargest : Groups 4294967295 (0xFF ∷ 0xFF ∷ 0xFF ∷ 0xFF ∷ 0x0F ∷ [])
+  pub oneMore : NoNumber 3 (0x80 ∷ 0x80 ∷ 0x80 ∷ 0x80 ∷ 0x10 ∷ [])
+  -- "five high-bit groups are 3 even at the log's end"; four there are 1, and four before a zero are 2
+  pub fiveHigh : NoNumber 3 (0x80 ∷ 0x80 ∷ 0x80 ∷ 0x80 ∷ 0x80 ∷ [])
+  pub fourHigh : NoNumber 1 (0xFF ∷ 0xFF ∷ 0xFF ∷ 0xFF ∷ [])
+  pub fourAndZero : NoNumber 2 (0x80 ∷ 0x80 ∷ 0x80 ∷ 0x80 ∷ 0x00 ∷ [])
+  -- "kind not 1-7"
+  pub kindZero : NoRecord 4 (0x00 ∷ [])
+  pub kindEight : NoRecord 4 (0x08 ∷ [])
+  -- a record of each other kind: setting 1 to 8,400, byte 0x42 to address 0x1B, and those with no numbers
+  pub set : Spells (Set 1 8400) (0x02 ∷ 0x01 ∷ 0xD0 ∷ 0x41 ∷ [])
+  pub write : Spells (Write 0x1B 0x42) (0x03 ∷ 0x1B ∷ 0x42 ∷ [])
+  pub takeFlags : Spells TakeFlags (0x04 ∷ [])
+  pub service : Spells Service (0x06 ∷ [])
+  pub reset : Spells Reset (0x07 ∷ [])
