@@ -5,3 +5,4 @@ pub mod RecordsRefused
 pub mod Keeping
 pub mod Only
 pub mod Examples
+pub mod Refutes

@@ -3,4 +3,5 @@ pub mod Format
 pub mod Unreadable
 pub mod Readers
 pub mod Ours
+pub mod Wrong
 pub mod Rows

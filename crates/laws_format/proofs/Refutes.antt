@@ -1,0 +1,50 @@
+-- Each wrong reader and writer breaks the format: a log or a buffer at which it answers another number.
+use Prim.Native.Nat.{ℕ, zero, suc, _+_}
+use mathlib.Core.Path.{_≡_, refl, ap}
+use mathlib.Core.List.{List, [], _∷_}
+use native.Mathlib.Omega.{arith}
+use lib.ListN.{getD}
+use Rattle.base.specs.Writing.{Wrote, written, put}
+use Rattle.log_number.specs.Number.{readNumber, readGroups}
+use Rattle.log_number.specs.Promises.{Bytes}
+use Rattle.log_event.specs.Events.{kindOf, eventOf}
+use Rattle.log_event.specs.Kinds.{kindByte}
+use Rattle.log_event.specs.declared.Event.the-variants.{Service}
+use Rattle.log_record.specs.Items.{spellItems, readItems}
+use Rattle.log_record.specs.Records.{Met, met, refused, end, spellEvent, readRecord, recordAt}
+use Rattle.laws_format.specs.Wrong.{readsFirst, FormatRefuted}
+use Rattle.laws_format.proofs.Examples.{paper-bytes}
+
+-- what is looked at: an event's kind, or a refusal's number and 10; the first byte that is written
+abbrev numberOf : Met → ℕ
+numberOf (met e next) = kindByte (kindOf e)
+numberOf (refused n place) = 10 + n
+numberOf end = 0
+
+abbrev firstByte : Wrote × List ℕ → ℕ
+firstByte w = getD (w .1) 0 0
+
+no-kind-there : Bytes (0x00 ∷ [])
+no-kind-there zero = omega arith
+no-kind-there (suc i) = omega arith
+
+zero-group-there : Bytes (0x02 ∷ 0x80 ∷ 0x00 ∷ [])
+zero-group-there zero = omega arith
+zero-group-there (suc zero) = omega arith
+zero-group-there (suc (suc zero)) = omega arith
+zero-group-there (suc (suc (suc i))) = omega arith
+
+pub format-refuted : FormatRefuted
+unfolding readsFirst recordAt readRecord readItems readNumber readGroups eventOf spellEvent spellItems written put
+format-refuted = record {
+  -- the log 06 is a reset
+  otherCode = λ d. let z : _≡_ {A = ℕ} 7 6 = ap numberOf (d .back Service (0x06 ∷ []) (paper-bytes .service) [] []) in omega arith;
+  -- a service is written as 07
+  otherCodeWritten = λ d. let z : _≡_ {A = ℕ} 7 6 = ap firstByte (d .written Service (0x06 ∷ []) (paper-bytes .service) (0x00 ∷ []) (omega arith)) in omega arith;
+  -- the log 06 06 at place 1
+  firstAlone = λ d. let z : _≡_ {A = ℕ} 11 6 = ap numberOf (d .back Service (0x06 ∷ []) (paper-bytes .service) (0x06 ∷ []) []) in omega arith;
+  -- the log 00
+  oneForAll = λ d. let z : _≡_ {A = ℕ} 11 14 = ap numberOf (d .refuses (0x00 ∷ []) no-kind-there 0 4 0 .1 (paper-bytes .kindZero, refl)) in omega arith;
+  -- the log 02 80 00
+  twoAndThree = λ d. let z : _≡_ {A = ℕ} 13 12 = ap numberOf (d .refuses (0x02 ∷ 0x80 ∷ 0x00 ∷ []) zero-group-there 0 2 0 .1 (paper-bytes .numberByNumber, refl)) in omega arith;
+}

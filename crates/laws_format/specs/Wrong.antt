@@ -1,0 +1,58 @@
+-- Wrong readers and writers, each this product's own with one thing changed, and that each breaks the format.
+use Prim.Native.Nat.{ℕ, zero, suc}
+use lib.ListN.{length}
+use lib.Dec.{leb, eqb}
+use Rattle.base.specs.Pick.{pick}
+use Rattle.log_event.specs.declared.Event.{Event}
+use Rattle.log_event.specs.declared.Event.the-variants.{PowerOn, Set, Write, TakeFlags, Observe, Service, Reset}
+use Rattle.log_record.specs.Records.{Met, met, refused, end}
+use Rattle.laws_format.specs.Readers.{Reader, Writer, Reads, Writes}
+use Rattle.laws_format.specs.Ours.{ourRead, ourWrite}
+
+-- another byte code: a service is 07 and a reset 06
+abbrev pub swapped : Event → Event
+swapped (PowerOn p) = PowerOn p
+swapped (Set n v) = Set n v
+swapped (Write a b) = Write a b
+swapped TakeFlags = TakeFlags
+swapped (Observe s) = Observe s
+swapped Service = Reset
+swapped Reset = Service
+
+-- what a reader answers, with another event or with another number for a refusal
+abbrev pub changed : (Event → Event) → (ℕ → ℕ) → Met → Met
+changed event number (met e next) = met (event e) next
+changed event number (refused n place) = refused (number n) place
+changed event number end = end
+
+abbrev pub readsSwapped : Reader
+readsSwapped bytes at = changed swapped (λ n. n) (ourRead bytes at)
+
+abbrev pub writesSwapped : Writer
+writesSwapped e buffer = ourWrite (swapped e) buffer
+
+-- reads at place 0 alone: 1 at every other place before the log's end
+unfoldable pub readsFirst : Reader
+readsFirst bytes zero = ourRead bytes zero
+readsFirst bytes (suc at) = pick (leb (length bytes) (suc at)) end (refused 1 (suc at))
+
+-- 1 for whatever can't be read
+abbrev pub alwaysOne : ℕ → ℕ
+alwaysOne n = 1
+
+abbrev pub refusesWithOne : Reader
+refusesWithOne bytes at = changed (λ e. e) alwaysOne (ourRead bytes at)
+
+-- 3 for 2, and 2 for 3
+abbrev pub threeForTwo : ℕ → ℕ
+threeForTwo n = pick (eqb n 2) 3 (pick (eqb n 3) 2 n)
+
+abbrev pub swapsTwoAndThree : Reader
+swapsTwoAndThree bytes at = changed (λ e. e) threeForTwo (ourRead bytes at)
+
+pub record FormatRefuted : Type 0 where
+  pub otherCode : ¬ Reads readsSwapped
+  pub otherCodeWritten : ¬ Writes writesSwapped
+  pub firstAlone : ¬ Reads readsFirst
+  pub oneForAll : ¬ Reads refusesWithOne
+  pub twoAndThree : ¬ Reads swapsTwoAndThree
