@@ -25,7 +25,7 @@ use Rattle.step_kinds.specs.Plain.{servicedOf}
 use Rattle.laws_account.specs.History.{Run, _▸_}
 use Rattle.step_turns.specs.declared.later.Later.{Later}
 use Rattle.step_turns.specs.declared.later.Later.the-variants.{Set, Write, TakeFlags, Observe, Service, Reset}
-use Rattle.laws_account.specs.Held.{profileOf, sampleOf, elapsed, wasReset, wasServed, expired, overridden, takes, cellsOf, byteOf}
+use Rattle.laws_account.specs.Held.{profileOf, sampleOf, regulated, elapsed, wasReset, wasServed, expired, overridden, takes, cellsOf, byteOf}
 use Rattle.laws_account.specs.Valued.{givenBy, settingOf}
 use Rattle.laws_account.specs.Judged.{bandAt}
 use Rattle.laws_account.specs.Cycles.{Stage, trickle, precharge, fast, limitOf, heldIn, unitsAfter, gave, isDone, wasDone, timeIn, timeFound, phaseAt}
@@ -88,7 +88,7 @@ either-zero false = refl
 
 gave-none : (s : Stage) (r : Run) (e : Later) → elapsed (r ▸ e) ≡ 0 → gave phaseAt s (r ▸ e) ≡ 0
 unfolding gave unitsAfter
-gave-none s r e z = rw (z, no-units (regulatedOf (sampleOf r))) (either-zero (counted s r))
+gave-none s r e z = rw (z, no-units (regulated r)) (either-zero (counted s r))
 
 time-kept : (s : Stage) (r : Run) (e : Later) → wasReset (r ▸ e) ≡ false → elapsed (r ▸ e) ≡ 0 → timeIn phaseAt s r ≡ timeFound phaseAt s (r ▸ e)
 unfolding timeFound
@@ -110,11 +110,11 @@ cycle-kept r e n z = λ i. record {
 -- an observation's time goes to the stage held before it
 cycle-timed : (r : Run) (x : Sample)
     → timesOf (profileOf r) (phaseAt r) (clock.unitsOf (sampleOf r) (elapsedOf (sampleOf r .stamp) (x .stamp))) (cycleAt phaseAt r) ≡ cycleFound (r ▸ Observe x)
-unfolding timesOf clock.unitsOf unitsAfter cycleAt timeFound gave elapsed wasReset wasDone
+unfolding timesOf clock.unitsOf regulatedOf unitsAfter cycleAt timeFound gave elapsed wasReset wasDone
 cycle-timed r x = λ i. record {
-  trickle = added (counted trickle r) (timeIn phaseAt trickle r) (unitsAfter (sampleOf r) (elapsed (r ▸ Observe x))) i;
-  precharge = added (counted precharge r) (timeIn phaseAt precharge r) (unitsAfter (sampleOf r) (elapsed (r ▸ Observe x))) i;
-  fast = added (counted fast r) (timeIn phaseAt fast r) (unitsAfter (sampleOf r) (elapsed (r ▸ Observe x))) i;
+  trickle = added (counted trickle r) (timeIn phaseAt trickle r) (unitsAfter r (elapsed (r ▸ Observe x))) i;
+  precharge = added (counted precharge r) (timeIn phaseAt precharge r) (unitsAfter r (elapsed (r ▸ Observe x))) i;
+  fast = added (counted fast r) (timeIn phaseAt fast r) (unitsAfter r (elapsed (r ▸ Observe x))) i;
   done = isDone phaseAt r;
 }
 

@@ -20,6 +20,7 @@ use Rattle.laws_account.proofs.Sharing.{cut-is}
 use Rattle.settle_levels.specs.Clamps.{faultOf, packClampOf, baseOf}
 use Rattle.settle_levels.specs.Comparators.{shortOf, lowOf, packOverOf, latchesOf}
 use Rattle.settle_levels.specs.Voltage.{chargeVoltageOf, taperOf, belowRecharge}
+use Rattle.settle_permission.specs.Bits.{regulatedOf}
 use Rattle.settle_permission.specs.Ending.{endingOf}
 use Rattle.settle_permission.specs.Limits.{reachedOf}
 use Rattle.settle_permission.specs.Permission.{permittedOf}
@@ -147,7 +148,7 @@ module _ (r : Run) (e : Later) where
   taper-is = ap (λ v. taperOf v (sampleOf m)) (voltage-is m)
 
   ending-is : endingOf (settingsAt m) (sampleOf m) ≡ ending m
-  unfolding endingOf ending settingsAt
+  unfolding endingOf regulatedOf ending settingsAt
   ending-is = refl
 
   pub tests-are : testsOf ready (latchesAt (r ▸ e)) (bandAt (r ▸ e)) (wasObserved (r ▸ e)) ≡ testsAt

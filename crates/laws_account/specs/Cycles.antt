@@ -11,10 +11,9 @@ use Rattle.state_parts.specs.Stages.{inTrickle, inPrecharge, inFast, limitUnits
 use Rattle.state_parts.specs.declared.phase.Phase.{Phase}
 use Rattle.state_parts.specs.declared.phase.Phase.the-variants.{Idle, Trickle, Precharge, Fast, Taper, Done, Suspended, Fault}
 use Rattle.state_parts.specs.declared.profile.Profile.{Profile}
-use Rattle.state_parts.specs.declared.sample.Sample.{Sample}
-use Rattle.settle_permission.specs.Bits.{regulatedOf, shutdownOf}
+use Rattle.settle_permission.specs.Bits.{shutdownOf}
 use Rattle.laws_account.specs.History.{Run, powered, _▸_, since, sumAfter, count}
-use Rattle.laws_account.specs.Held.{profileOf, sampleOf, elapsed, wasObserved, wasReset}
+use Rattle.laws_account.specs.Held.{profileOf, sampleOf, regulated, elapsed, wasObserved, wasReset}
 use Rattle.laws_account.specs.Judged.{short, low, packOver, permitted, suspended, tapering, rechargeDue, ending}
 
 -- the stages that have a limit: "trickle, precharge; fast and taper share one"
@@ -32,8 +31,8 @@ heldIn precharge = inPrecharge
 heldIn fast = inFast
 
 -- "two units per ms, one while the old sample shows any regulation"
-unfoldable pub unitsAfter : Sample → ℕ → ℕ
-unitsAfter old ms = pick (regulatedOf old) ms (ms * 2)
+unfoldable pub unitsAfter : Run → ℕ → ℕ
+unitsAfter r ms = pick (regulated r) ms (ms * 2)
 
 -- "A limit of s seconds is reached at 2,000s units; a limit 0 counts nothing."
 abbrev pub reaches : ℕ → ℕ → Bool
@@ -47,7 +46,7 @@ module _ (P : Run → Phase) where
   -- "1. Time since the last stamp goes to the stage held before it": what the last event gave a stage
   unfoldable pub gave : Stage → Run → ℕ
   gave s (powered p) = 0
-  gave s (r ▸ e) = pick (heldIn s (P r) && not (eqb (limitOf s (profileOf r)) 0)) (unitsAfter (sampleOf r) (elapsed (r ▸ e))) 0
+  gave s (r ▸ e) = pick (heldIn s (P r) && not (eqb (limitOf s (profileOf r)) 0)) (unitsAfter r (elapsed (r ▸ e))) 0
 
   -- done: phase 5 was reported, and since then neither a reset nor a phase but 5, 6 and 7, in which it is kept
   unfoldable pub isDone : Run → Bool

@@ -1,6 +1,6 @@
 -- The account, what a run's events leave held: profile, sample, time, the watchdog, overrides, CELL_PIN and register bytes.
 use Prim.Native.Nat.{ℕ, _*_}
-use mathlib.Core.Bool.{Bool, true, false, not, _&&_}
+use mathlib.Core.Bool.{Bool, true, false, not, _&&_, _||_}
 use lib.Dec.{leb, eqb}
 use Rattle.base.specs.Pick.{pick}
 use Rattle.base.specs.Stamps.{elapsedOf}
@@ -8,6 +8,7 @@ use Rattle.state_parts.specs.declared.profile.Profile.{Profile}
 use Rattle.state_parts.specs.declared.sample.Sample.{Sample}
 use Rattle.state_start.specs.Values.{startSample}
 use Rattle.state_fields.specs.Rows.{Field, digitOf, keptFrom, takenOf, resetByte, enBypassLlExit, vchgOverride, cellOverride, cellPin, ichgOverride}
+use Rattle.settle_permission.specs.Bits.{iindpmOf, vindpmOf, thermalOf}
 use Rattle.laws_account.specs.History.{Run, powered, _▸_, sumAfter}
 use Rattle.step_turns.specs.declared.later.Later.the-variants.{Set, Write, TakeFlags, Observe, Service, Reset}
 
@@ -24,6 +25,10 @@ sampleOf (r ▸ TakeFlags) = sampleOf r
 sampleOf (r ▸ Observe x) = x
 sampleOf (r ▸ Service) = sampleOf r
 sampleOf (r ▸ Reset) = sampleOf r
+
+-- "while the old sample shows any regulation", "no regulation": IINDPM, VINDPM or thermal regulation of the sample held
+abbrev pub regulated : Run → Bool
+regulated r = iindpmOf (sampleOf r) || vindpmOf (sampleOf r) || thermalOf (sampleOf r)
 
 -- "Time since the last stamp", of the last event: only an observation brings any
 unfoldable pub elapsed : Run → ℕ

@@ -17,9 +17,9 @@ use Rattle.settle_bands.specs.Thresholds.{th1At, th2At, th3At, th5At}
 use Rattle.settle_bands.specs.Effect.{coolShare, warmShare, warmCut}
 use Rattle.settle_levels.specs.Comparators.{shortReturnsAt, shortEndsAt, lowEndsAt}
 use Rattle.settle_levels.specs.Voltage.{rechargeShareAt}
-use Rattle.settle_permission.specs.Bits.{ceHigh, hizHigh, regulatedOf}
+use Rattle.settle_permission.specs.Bits.{ceHigh, hizHigh}
 use Rattle.laws_account.specs.History.{Run, powered, _▸_, since}
-use Rattle.laws_account.specs.Held.{profileOf, sampleOf, vchg, ichg, overridden, cellsOf, fieldAt}
+use Rattle.laws_account.specs.Held.{profileOf, sampleOf, regulated, vchg, ichg, overridden, cellsOf, fieldAt}
 use Rattle.laws_account.specs.Valued.{pinFault, settingOf, enabled}
 
 unfoldable pub vbat : Run → PackMv
@@ -137,4 +137,4 @@ rechargeDue r = belowShare (vbat r) (baseAt r) (rechargeShareAt (profileOf r) (s
 
 -- "EN_TERM, IBAT < ITERM, no regulation"
 unfoldable pub ending : Run → Bool
-ending r = enabled 10 r && ltZ (sampleOf r .ibat) (pos (settingOf 4 r)) && not (regulatedOf (sampleOf r))
+ending r = enabled 10 r && ltZ (sampleOf r .ibat) (pos (settingOf 4 r)) && not (regulated r)
