@@ -129,7 +129,7 @@ unfolding found stateBy settingsAt registersAt byteOf cellsOf overridden sampleO
 written-is r (Set n v) =
     λ i. changed r (store-is (λ k. settingOf k r) n v i) (registersAt r) (cycle-kept r (Set n v) refl refl i) (waits r (Set n v) refl refl i) (sampleOf r)
 written-is r (Write a b) =
-    λ i. changed r (count-is (λ k. settingOf k r) (profileOf r) (digitOf cellPin b) (takes r (cellsOf r) a b) i) (written-bytes r (stateOf r) refl refl a b i)
+    λ i. changed r (count-is (λ k. settingOf k r) (profileOf r) (digitOf cellPin b) (takes r (cellsOf r) a b) i) (written-bytes r (stateOf r) refl a b i)
     (cycle-kept r (Write a b) refl refl i) (waits r (Write a b) refl refl i) (sampleOf r)
 written-is r TakeFlags =
     λ i. changed r (settingsAt r) (registersAt r) (cycle-kept r TakeFlags refl refl i) (waits r TakeFlags refl refl i) (sampleOf r)

@@ -11,7 +11,6 @@ use Rattle.state_parts.specs.declared.profile.Profile.{Profile}
 use Rattle.state_parts.specs.declared.state.State.{State}
 use Rattle.state_start.specs.Values.{startSettings, startRegisters, startLatches, startCycle, startWatchdog, startSample, startState}
 use Rattle.state_settings.specs.Numbered.{settingNumbers, heldOf}
-use Rattle.state_fields.specs.Rows.{fields, fieldsAt, resetByte}
 use Rattle.state_valid.specs.Holds.{profileOk}
 use Rattle.settle_bands.specs.Thresholds.{bandOf}
 use Rattle.settle_levels.specs.Clamps.{faultOf, packClampOf, baseOf}
@@ -49,7 +48,7 @@ module _ (p : Profile) where
   on = powered p
 
   registers-start : startRegisters p ≡ registersAt (powered p)
-  unfolding registersAt byteOf cellsOf overridden resetByte fieldsAt fields
+  unfolding registersAt byteOf cellsOf overridden
   registers-start = refl
 
   settings-start : storedOf (faultOf p (startRegisters p)) (startSettings p (p .cell)) ≡ settingsAt (powered p)

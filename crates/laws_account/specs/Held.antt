@@ -1,13 +1,15 @@
 -- The account, what a run's events leave held: profile, sample, time, the watchdog, overrides, CELL_PIN and register bytes.
-use Prim.Native.Nat.{ℕ, _*_}
+use Prim.Native.Nat.{ℕ, _+_, _-_, _*_, _/_, _%_}
 use mathlib.Core.Bool.{Bool, true, false, not, _&&_, _||_}
+use mathlib.Core.List.{[], _∷_}
+use lib.ListN.{getD}
 use lib.Dec.{leb, eqb}
 use Rattle.base.specs.Pick.{pick}
 use Rattle.base.specs.Stamps.{elapsedOf}
 use Rattle.state_parts.specs.declared.profile.Profile.{Profile}
 use Rattle.state_parts.specs.declared.sample.Sample.{Sample}
 use Rattle.state_start.specs.Values.{startSample}
-use Rattle.state_fields.specs.Rows.{Field, digitOf, keptFrom, takenOf, resetByte, enBypassLlExit, vchgOverride, cellOverride, cellPin, ichgOverride}
+use Rattle.state_fields.specs.Rows.{Field, digitOf, vchgOverride, cellOverride, cellPin, ichgOverride}
 use Rattle.settle_permission.specs.Bits.{iindpmOf, vindpmOf, thermalOf}
 use Rattle.laws_account.specs.History.{Run, powered, _▸_, sumAfter}
 use Rattle.step_turns.specs.declared.later.Later.the-variants.{Set, Write, TakeFlags, Observe, Service, Reset}
@@ -109,18 +111,28 @@ cellsOf (r ▸ Observe x) = cellsOf r
 cellsOf (r ▸ Service) = cellsOf r
 cellsOf (r ▸ Reset) = cellsOf r
 
--- the byte of an address from 0x15 to 0x1A. "Register reset restores .. the resets above ..; it leaves .. 0x19 bit 7."
-abbrev pub restoredByte : Profile → ℕ → ℕ → ℕ
-restoredByte p address held = pick (eqb address (enBypassLlExit .address)) (keptFrom enBypassLlExit held (resetByte p address)) (resetByte p address)
+-- "Resets: 00 E1 AA 95 D7 40", from 0x15 on
+abbrev pub resetAt : Profile → ℕ → ℕ
+resetAt p address = getD (0x00 ∷ 0xE1 ∷ 0xAA ∷ 0x95 ∷ 0xD7 ∷ 0x40 ∷ []) (address - 0x15) 0
 
+-- "Reserved and read-only bits ignore writes; reserved read 0." By the sheet's tables 6-28 to 6-33 0x15 has bits 3, 1 and 0, 0x1A all but bit 4, and the four between them have all
+-- eight.
+abbrev pub takenAt : Profile → ℕ → ℕ → ℕ
+takenAt p address byte = pick (eqb address 0x15) (byte / 8 % 2 * 8 + byte % 4) (pick (eqb address 0x1A) (byte / 32 % 8 * 32 + byte % 16) (byte % 256))
+
+-- "Register reset restores .. the resets above ..; it leaves .. 0x19 bit 7."
+abbrev pub restoredAt : Profile → ℕ → ℕ → ℕ
+restoredAt p address held = pick (eqb address 0x19) (held / 128 * 128 + resetAt p address % 128) (resetAt p address)
+
+-- the byte of an address from 0x15 to 0x1A
 unfoldable pub byteOf : ℕ → Run → ℕ
-byteOf at (powered p) = resetByte p at
+byteOf at (powered p) = resetAt p at
 byteOf at (r ▸ Set number value) = byteOf at r
-byteOf at (r ▸ Write address byte) = pick (eqb address at) (takenOf (profileOf r) false at (byteOf at r) byte) (byteOf at r)
+byteOf at (r ▸ Write address byte) = pick (eqb address at) (takenAt (profileOf r) at byte) (byteOf at r)
 byteOf at (r ▸ TakeFlags) = byteOf at r
 byteOf at (r ▸ Observe x) = byteOf at r
 byteOf at (r ▸ Service) = byteOf at r
-byteOf at (r ▸ Reset) = restoredByte (profileOf r) at (byteOf at r)
+byteOf at (r ▸ Reset) = restoredAt (profileOf r) at (byteOf at r)
 
 -- a field of the registers, by its name
 abbrev pub fieldAt : Field → Run → ℕ
