@@ -1,14 +1,13 @@
 -- The account, what a run's events leave held: profile, sample, time, the watchdog, overrides, CELL_PIN and register bytes.
-use Prim.Native.Nat.{ℕ, _+_, _-_, _*_, _/_, _%_}
+use Prim.Native.Nat.{ℕ, _+_, _-_, _*_, _/_, _%_, _^_}
 use mathlib.Core.Bool.{Bool, true, false, not, _&&_, _||_}
 use mathlib.Core.List.{[], _∷_}
 use lib.ListN.{getD}
 use lib.Dec.{leb, eqb}
+use lib.IntN.{pos}
 use Rattle.base.specs.Pick.{pick}
-use Rattle.base.specs.Stamps.{elapsedOf}
 use Rattle.state_parts.specs.declared.profile.Profile.{Profile}
 use Rattle.state_parts.specs.declared.sample.Sample.{Sample}
-use Rattle.state_start.specs.Values.{startSample}
 use Rattle.state_fields.specs.Rows.{Field, digitOf, vchgOverride, cellOverride, cellPin, ichgOverride}
 use Rattle.settle_permission.specs.Bits.{iindpmOf, vindpmOf, thermalOf}
 use Rattle.laws_account.specs.History.{Run, powered, _▸_, sumAfter}
@@ -19,8 +18,9 @@ profileOf (powered p) = p
 profileOf (r ▸ e) = profileOf r
 
 -- "3. The new sample stands." "Other accepted events settle on the held sample; before the first observation after a power-on it is TS 55,000 and zeros."
+-- "the last stamp" is then the power-on's
 unfoldable pub sampleOf : Run → Sample
-sampleOf (powered p) = startSample p
+sampleOf (powered p) = record { stamp = p .stamp; input = 0; pack = 0; ibat = pos 0; ts = 55000; bits = 0 }
 sampleOf (r ▸ Set number value) = sampleOf r
 sampleOf (r ▸ Write address byte) = sampleOf r
 sampleOf (r ▸ TakeFlags) = sampleOf r
@@ -32,13 +32,13 @@ sampleOf (r ▸ Reset) = sampleOf r
 abbrev pub regulated : Run → Bool
 regulated r = iindpmOf (sampleOf r) || vindpmOf (sampleOf r) || thermalOf (sampleOf r)
 
--- "Time since the last stamp", of the last event: only an observation brings any
+-- "Time since the last stamp", of the last event: only an observation brings any. "Stamps come from a counter that runs free and wraps at 2^32"
 unfoldable pub elapsed : Run → ℕ
 elapsed (powered p) = 0
 elapsed (r ▸ Set number value) = 0
 elapsed (r ▸ Write address byte) = 0
 elapsed (r ▸ TakeFlags) = 0
-elapsed (r ▸ Observe x) = elapsedOf (sampleOf r .stamp) (x .stamp)
+elapsed (r ▸ Observe x) = (x .stamp + 2 ^ 32 - sampleOf r .stamp) % 2 ^ 32
 elapsed (r ▸ Service) = 0
 elapsed (r ▸ Reset) = 0
 
