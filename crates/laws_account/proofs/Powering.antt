@@ -10,7 +10,6 @@ use Rattle.state_parts.specs.declared.phase.Phase.the-variants.{Idle}
 use Rattle.state_parts.specs.declared.profile.Profile.{Profile}
 use Rattle.state_parts.specs.declared.state.State.{State}
 use Rattle.state_start.specs.Values.{startSettings, startRegisters, startLatches, startCycle, startWatchdog, startSample, startState}
-use Rattle.state_settings.specs.Numbered.{settingNumbers, heldOf}
 use Rattle.state_valid.specs.Holds.{profileOk}
 use Rattle.settle_bands.specs.Thresholds.{bandOf}
 use Rattle.settle_levels.specs.Clamps.{faultOf, packClampOf, baseOf}
@@ -40,7 +39,7 @@ poweredOf p = withFlags (settleOf (startState p) false) powerOnFlags
 
 -- VBAT_LOWV starts at 3
 low-pos : (p : Profile) → 0 < lowEnds (powered p) - 50
-unfolding settingOf startValue heldOf settingNumbers startSettings
+unfolding settingOf startValue
 low-pos p = omega arith
 
 module _ (p : Profile) where

@@ -16,8 +16,6 @@ use Rattle.base.proofs.Table.{at}
 use Rattle.base.proofs.Tests.{leb-iff, and-iff}
 use Rattle.state_parts.specs.Pins.{vchgOf}
 use Rattle.state_parts.specs.declared.profile.Profile.{Profile}
-use Rattle.state_start.specs.Values.{startVreg, startSettings}
-use Rattle.state_settings.specs.Numbered.{settingNumbers, heldOf}
 use Rattle.state_valid.specs.Holds.{profileOk}
 use Rattle.settle_levels.specs.Comparators.{shortReturnsAt}
 use Rattle.laws_account.specs.History.{powered}
@@ -29,13 +27,9 @@ nonzero : (n : ℕ) → eqb n 0 ≡ false → 0 < n
 nonzero zero h = absurd (true≢false h)
 nonzero (suc n) h = omega arith
 
-pos-pick : (t : Bool) (a b : PackMv) → 0 < a .0 → 0 < b .0 → 0 < pick t a b .0
-pos-pick true a b h k = h
-pos-pick false a b h k = k
-
-pos-cell : (t : Bool) (a b : CellMv) → 0 < a .0 → 0 < b .0 → 0 < pick t a b .0
-pos-cell true a b h k = h
-pos-cell false a b h k = k
+pos-pick : {A : Type 0} (f : A → ℕ) (t : Bool) (a b : A) → 0 < f a → 0 < f b → 0 < f (pick t a b)
+pos-pick f true a b h k = h
+pos-pick f false a b h k = k
 
 pos-pack : (each : CellMv) (cells : ℕ) → 0 < each .0 → 0 < cells → 0 < inPack each cells .0
 unfolding inPack
@@ -68,16 +62,17 @@ module _ (p : Profile) (ok : profileOk p ≡ true) (sound : pinFault (powered p)
   vchg-pos = pos-vchg p (vchg-max p ok) (nonzero (p .vchg) (pins .1))
 
   base-pos : 0 < baseAt (powered p) .0
-  unfolding baseAt settingOf startValue heldOf settingNumbers startSettings startVreg packClamp overridden cellsOf profileOf
+  unfolding baseAt settingOf startValue packClamp overridden cellsOf profileOf
   base-pos =
-      pos-pick (leb (startVreg p (p .cell) .0) (inPack (vchgOf p) (p .cell) .0)) (startVreg p (p .cell)) (inPack (vchgOf p) (p .cell))
-      (pos-pick (eqb (p .vchg) 0 || eqb (p .cell) 0) (packOf 2400) (inPack (vchgOf p) (p .cell)) (omega arith) (pos-pack (vchgOf p) (p .cell) vchg-pos cells-pos))
-      (pos-pack (vchgOf p) (p .cell) vchg-pos cells-pos)
+      let volts = inPack (vchgOf p) (p .cell) in
+      let some = pos-pack (vchgOf p) (p .cell) vchg-pos cells-pos in
+      pos-pick (λ (v : PackMv). v .0) (leb (startValue p (p .cell) 1) (volts .0)) (packOf (startValue p (p .cell) 1)) volts
+      (pos-pick (λ n. n) (eqb (p .vchg) 0 || eqb (p .cell) 0) 2400 (volts .0) (omega arith) some) some
 
   pub below-short : below (vbat (powered p)) (inPack (shortReturnsAt p (p .cell)) (p .cell)) ≡ true
   unfolding vbat sampleOf
   below-short =
-      lt-ltb 0 _ (pos-pack (shortReturnsAt p (p .cell)) (p .cell) (pos-cell (leb (p .cell) 2) (record { 0 = 1850 }) (record { 0 = 2000 }) (omega arith) (omega arith)) cells-pos)
+      lt-ltb 0 _ (pos-pack (shortReturnsAt p (p .cell)) (p .cell) (pos-pick (λ (v : CellMv). v .0) (leb (p .cell) 2) (record { 0 = 1850 }) (record { 0 = 2000 }) (omega arith) (omega arith)) cells-pos)
 
   pub below-any : (share : ℕ) → 0 < share → belowShare (vbat (powered p)) (baseAt (powered p)) share ≡ true
   unfolding belowShare vbat sampleOf

@@ -1,7 +1,7 @@
 -- The settings of a run: what each kind of event stores is what the account says that it gives, number by number.
 use Prim.Native.Nat.{ℕ}
-use mathlib.Core.Path.{_≡_, refl}
-use mathlib.Core.Bool.{Bool, true, false, not, _&&_}
+use mathlib.Core.Path.{_≡_, refl, ap, _∙_}
+use mathlib.Core.Bool.{Bool, true, false, not, _&&_, _||_}
 use lib.Dec.{eqb}
 use Rattle.base.specs.Pick.{pick}
 use Rattle.base.specs.Units.{inPack}
@@ -9,8 +9,8 @@ use Rattle.base.specs.Volts.{packOf, millivoltsOf}
 use Rattle.base.specs.declared.units.PackMv.{PackMv}
 use Rattle.state_parts.specs.Pins.{vchgOf}
 use Rattle.state_parts.specs.declared.profile.Profile.{Profile}
-use Rattle.state_start.specs.Values.{startSettings}
-use Rattle.state_settings.specs.Numbered.{settingNumbers, heldOf, storeOf}
+use Rattle.state_start.specs.Values.{startVreg, startIchg, startVsysmin, startSettings}
+use Rattle.state_settings.specs.Numbered.{storeOf}
 use Rattle.state_registers.specs.Writes as registers
 use Rattle.settle_all.specs.Settle.{storedOf}
 use Rattle.laws_account.specs.Valued.{startValue, recounted}
@@ -39,6 +39,17 @@ store-is f n v = λ i. record {
   masks = pick (eqb n 14) v (f 14);
 }
 
+-- the two start values that go by cells
+vreg-is : (p : Profile) (cells : ℕ) → startVreg p cells ≡ packOf (startValue p cells 1)
+unfolding startVreg startValue
+vreg-is p cells = through packOf (eqb (p .vchg) 0 || eqb cells 0) 2400 (millivoltsOf (inPack (vchgOf p) cells))
+
+vsysmin-is : (p : Profile) (cells : ℕ) → startVsysmin p cells ≡ packOf (startValue p cells 6)
+unfolding startVsysmin startValue
+vsysmin-is p cells =
+    let each = millivoltsOf (inPack (record { 0 = 3100 }) cells) in
+    ap (pick (eqb cells 0) (packOf 3000)) (through packOf (eqb cells 1) 3500 each) ∙ through packOf (eqb cells 0) 3000 (pick (eqb cells 1) 3500 each)
+
 unless : (zero : Bool) (new : PackMv) (old : ℕ) → pick zero (packOf old) new ≡ packOf (pick (not zero) (millivoltsOf new) old)
 unless true new old = refl
 unless false new old = refl
@@ -52,7 +63,7 @@ count-is f p cells true = λ i. record {
   iprechg = f 3;
   iterm = f 4;
   iindpm = f 5;
-  vsysmin = numbered (λ k. recounted p cells k (f k)) .vsysmin;
+  vsysmin = vsysmin-is p cells i;
   lowv = f 7;
   vrechg = f 8;
   enchg = eqb (f 9) 1;
@@ -65,8 +76,23 @@ count-is f p cells true = λ i. record {
 count-is f p cells false = refl
 
 pub start-is : (p : Profile) (cells : ℕ) → startSettings p cells ≡ numbered (startValue p cells)
-unfolding startSettings startValue heldOf settingNumbers
-start-is p cells = refl
+unfolding startSettings startIchg startValue
+start-is p cells = λ i. record {
+  vreg = vreg-is p cells i;
+  ichg = startValue p cells 2;
+  iprechg = 120;
+  iterm = 60;
+  iindpm = 3300;
+  vsysmin = vsysmin-is p cells i;
+  lowv = 3;
+  vrechg = 3;
+  enchg = true;
+  enterm = true;
+  enhiz = false;
+  enextilim = true;
+  disstat = false;
+  masks = 0;
+}
 
 -- "It forces EN_CHG 0."
 pub force-is : (f : ℕ → ℕ) (fault : Bool) → storedOf fault (numbered f) ≡ numbered (λ k. pick (eqb k 9 && fault) 0 (f k))

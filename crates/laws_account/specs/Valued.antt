@@ -1,15 +1,15 @@
 -- The account, the settings: each by its number, 1 to 14, as a run's events leave it.
-use Prim.Native.Nat.{ℕ}
+use Prim.Native.Nat.{ℕ, _-_}
 use mathlib.Core.Bool.{Bool, not, _&&_, _||_}
+use mathlib.Core.List.{List, [], _∷_}
+use lib.ListN.{getD}
 use lib.Dec.{eqb}
 use Rattle.base.specs.Pick.{pick}
 use Rattle.base.specs.Units.{inPack}
 use Rattle.base.specs.Volts.{millivoltsOf}
-use Rattle.state_parts.specs.Pins.{vchgOf}
+use Rattle.state_parts.specs.Pins.{vchgOf, ichgOf}
 use Rattle.state_parts.specs.declared.profile.Profile.{Profile}
 use Rattle.state_fields.specs.Rows.{digitOf, cellPin}
-use Rattle.state_start.specs.Values.{startVsysmin, startSettings}
-use Rattle.state_settings.specs.Numbered.{heldOf}
 use Rattle.laws_account.specs.History.{Run, powered, _▸_}
 use Rattle.step_turns.specs.declared.later.Later.the-variants.{Set, Write, TakeFlags, Observe, Service, Reset}
 use Rattle.laws_account.specs.Held.{profileOf, vchg, ichg, overridden, takes, cellsOf}
@@ -19,14 +19,33 @@ unfoldable pub pinFault : Run → Bool
 pinFault r =
     eqb (cellsOf r) 0 || (eqb (profileOf r .vchg) 0 && not (overridden vchg r)) || (eqb (profileOf r .ichg) 0 && not (overridden ichg r))
 
--- 01, "Settings (start values are house)": a start value by the setting's number, from codes and CELL_PIN
+-- 01, "Settings (start values are house)": setting 1's and those after it, from codes and CELL_PIN
+abbrev pub startValues : Profile → ℕ → List ℕ
+startValues p cells =
+    pick (eqb (p .vchg) 0 || eqb cells 0) 2400 (millivoltsOf (inPack (vchgOf p) cells))  -- "1 VREG .. starts at vchg x cells (either code 0: 2,400)."
+    ∷ pick (eqb (p .ichg) 0) 40 (ichgOf p)  -- "2 ICHG .. starts at its pin (code 0: 40)."
+    ∷ 120  -- "3 IPRECHG, 4 ITERM .. start 120, 60."
+    ∷ 60
+    ∷ 3300  -- "5 IINDPM .. starts 3,300."
+    ∷ pick (eqb cells 0) 3000 (pick (eqb cells 1) 3500 (millivoltsOf (inPack (record { 0 = 3100 }) cells)))  -- "6 VSYSMIN .. starts 3,100 x cells (one cell 3,500; code 0: 3,000)."
+    ∷ 3  -- "7 VBAT_LOWV, 8 VRECHG 0-3, start 3."
+    ∷ 3
+    ∷ 1  -- "9 EN_CHG, 10 EN_TERM, 12 EN_EXTILIM 0-1, start 1. 11 EN_HIZ, 13 DIS_STAT_PIN 0-1, start 0."
+    ∷ 1
+    ∷ 0
+    ∷ 1
+    ∷ 0
+    ∷ 0  -- "14 masks 0-4,095, starts 0."
+    ∷ []
+
+-- and by the setting's number
 unfoldable pub startValue : Profile → ℕ → ℕ → ℕ
-startValue p cells number = heldOf (startSettings p cells) number
+startValue p cells number = getD (startValues p cells) (number - 1) 0
 
 -- a count that was taken: "Then VSYSMIN takes its start value and VREG becomes vchg x count (unchanged if vchg is 0)."
 abbrev pub recounted : Profile → ℕ → ℕ → ℕ → ℕ
 recounted p cells number held =
-    pick (eqb number 6) (millivoltsOf (startVsysmin p cells))
+    pick (eqb number 6) (startValue p cells 6)
     (pick (eqb number 1 && not (eqb (p .vchg) 0)) (millivoltsOf (inPack (vchgOf p) cells)) held)
 
 -- a pin fault "forces EN_CHG 0", and nothing but a set or a reset makes it 1 again
