@@ -4,7 +4,7 @@ use native.Mathlib.Omega.{arith}
 use mathlib.Core.Path.{_≡_, refl, sym, ap, _∙_}
 use mathlib.Core.Bool.{Bool, true, false, not, _&&_, _||_}
 use Rattle.base.specs.Units.{inPack, below, belowShare}
-use Rattle.state_parts.specs.Edges.{noFlags, powerOnFlags, flagsNumber}
+use Rattle.state_parts.specs.Edges.{noFlags, powerOnFlags}
 use Rattle.state_parts.specs.declared.band.Band.the-variants.{Normal}
 use Rattle.state_parts.specs.declared.phase.Phase.the-variants.{Idle}
 use Rattle.state_parts.specs.declared.profile.Profile.{Profile}
@@ -155,5 +155,5 @@ module _ (p : Profile) where
         ∙ settled-start
 
     pub powered-is : poweredOf p ≡ stateOf (powered p)
-    unfolding stateBy flagsAt flagged since wasTaken flagsNumber
+    unfolding stateBy flagsAt flagged since wasTaken
     powered-is = ap (λ s. withFlags s powerOnFlags) settle-start

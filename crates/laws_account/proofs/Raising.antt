@@ -1,7 +1,9 @@
 -- The flags of a run: the edges of an event are the account's, and so are the flags that are held after it.
-use Prim.Native.Nat.{ℕ}
-use mathlib.Core.Path.{_≡_, refl, ap, _∙_}
-use mathlib.Core.Bool.{Bool, false, _||_}
+use Prim.Native.Nat.{ℕ, _/_, _%_, _^_}
+use native.Mathlib.Omega.{arith}
+use mathlib.Core.Path.{_≡_, refl, sym, ap, _∙_}
+use mathlib.Core.Bool.{Bool, false, _&&_, _||_, or-assoc, or-false}
+use lib.Dec.{eqb}
 use Rattle.state_parts.specs.Edges.{flagsNumber, merged, pulseOf, noFlags}
 use Rattle.state_parts.specs.declared.flags.Edges.{Edges}
 use Rattle.state_parts.specs.declared.state.State.{State}
@@ -24,12 +26,42 @@ use Rattle.laws_account.specs.Valued.{settingOf}
 use Rattle.laws_account.specs.Judged.{inputGood}
 use Rattle.laws_account.specs.Cycles.{limitReached, phaseAt}
 use Rattle.laws_account.specs.Flagged as flag
-use Rattle.laws_account.specs.Flagged.{Flag, edgesBy, flagsBy, wasTaken, edge, flagged, handedBack, pulsed}
+use Rattle.laws_account.specs.Flagged.{Flag, placeOf, everyFlag, flagsBy, anyOf, wasTaken, edge, flagged, handedBack, pulsed}
 use Rattle.laws_account.specs.States.{settingsAt, latchesAt, cycleAt, flagsAt, stateBy, stateOf}
 use Rattle.laws_account.proofs.Choices.{or-swap}
 use Rattle.laws_account.proofs.Dogs.{expired-is}
 use Rattle.laws_account.proofs.Found.{writtenBy, found, written-is}
 use Rattle.laws_account.proofs.Settling.{flaggedWith, settle-is}
+
+-- the model's edges, each by its flag's test
+abbrev pub edgesBy : (Flag → Bool) → Edges
+edgesBy test = record {
+  good = test flag.good;
+  lost = test flag.lost;
+  iindpm = test flag.iindpm;
+  vindpm = test flag.vindpm;
+  thermal = test flag.thermal;
+  expired = test flag.expiry;
+  phase = test flag.phase;
+  band = test flag.band;
+  inputover = test flag.inputover;
+  shutdown = test flag.shutdown;
+  packover = test flag.packover;
+  limit = test flag.limit;
+}
+
+-- the model's number of them and its pulse are the account's
+number-is : (test : Flag → Bool) → flagsNumber (edgesBy test) ≡ flagsBy test
+unfolding flagsNumber
+number-is test = omega arith
+
+pulse-is : (test : Flag → Bool) (masks : ℕ) → pulseOf (edgesBy test) masks ≡ anyOf (λ k. test k && eqb (masks / 2 ^ placeOf k % 2) 0) everyFlag
+unfolding pulseOf
+pulse-is test masks = simp (or-assoc, or-false)
+
+join-is : (held raised : Flag → Bool) → merged (flagsBy held) (edgesBy raised) ≡ flagsBy (λ k. held k || raised k)
+join-is held raised =
+    ap (λ n. merged n (edgesBy raised)) (sym (number-is held)) ∙ flags-join (edgesBy held) (edgesBy raised) ∙ number-is (λ k. held k || raised k)
 
 module _ (r : Run) (e : Later) where
   abbrev pub edges : Edges
@@ -56,6 +88,10 @@ module _ (r : Run) (e : Later) where
     limit = edge phaseAt flag.limit (r ▸ e);
   }
 
+  pulsed-is : pulseOf (edgesOf (seenOf (stateOf r)) (seenOf (flaggedWith (r ▸ e) (flagsAt phaseAt r)))) (settingOf 14 (r ▸ e)) ≡ pulsed phaseAt (r ▸ e)
+  unfolding pulsed
+  pulsed-is = ap (λ x. pulseOf x (settingOf 14 (r ▸ e))) edges-are ∙ pulse-is (λ k. edge phaseAt k (r ▸ e)) (settingOf 14 (r ▸ e))
+
   -- the flags that the event found and raised
   abbrev pub all : ℕ
   all = merged (flagsAt phaseAt r) edges
@@ -75,14 +111,14 @@ module _ (r : Run) (e : Later) where
     settled-is h = ap (settleOf (found r e)) h ∙ settle-is r e
 
     found-is : observing w ≡ wasObserved (r ▸ e) → finishOf (seenOf (stateOf r)) (found r e) w ≡ ended
-    unfolding finishOf found pulsed settingsAt stateBy
+    unfolding finishOf found settingsAt stateBy
     found-is h =
         ap ending (settled-is h)
         ∙ (λ i. record {
           number = 0;
           place = 0;
           model = On (flaggedWith (r ▸ e) (keptBy w (merged (flagsAt phaseAt r) (edges-are i))));
-          pulse = pulsesBy w (pulseOf (edges-are i) (settingOf 14 (r ▸ e)));
+          pulse = pulsesBy w (pulsed-is i);
           handed = handedBy w (merged (flagsAt phaseAt r) (edges-are i));
         })
 
@@ -95,7 +131,7 @@ module _ (r : Run) (e : Later) where
 
   flags-after : wasTaken (r ▸ e) ≡ false → all ≡ flagsAt phaseAt (r ▸ e)
   unfolding flagsAt
-  flags-after h = flags-join (edgesBy (λ k. flagged phaseAt k r)) edges ∙ (λ i. flagsBy (λ k. held-after h k i))
+  flags-after h = join-is (λ k. flagged phaseAt k r) (λ k. edge phaseAt k (r ▸ e)) ∙ (λ i. flagsBy (λ k. held-after h k i))
 
   pub kept-is : wasTaken (r ▸ e) ≡ false → flaggedWith (r ▸ e) all ≡ stateOf (r ▸ e)
   unfolding stateBy
@@ -106,14 +142,13 @@ module _ (r : Run) (e : Later) where
   none-handed h k = rw h
 
   pub hands-none : wasTaken (r ▸ e) ≡ false → noFlags ≡ flagsBy (λ k. handedBack phaseAt k (r ▸ e))
-  unfolding flagsNumber
   hands-none h = λ i. flagsBy (λ k. none-handed h k i)
 
 -- taken flags are handed back, and none is held after it
 pub taken-is : (r : Run) → flaggedWith (r ▸ TakeFlags) noFlags ≡ stateOf (r ▸ TakeFlags)
-unfolding stateBy flagsAt flagged since wasTaken flagsNumber
+unfolding stateBy flagsAt flagged since wasTaken
 taken-is r = refl
 
 pub hands-held : (r : Run) → all r TakeFlags ≡ flagsBy (λ k. handedBack phaseAt k (r ▸ TakeFlags))
 unfolding flagsAt handedBack wasTaken
-hands-held r = flags-join (edgesBy (λ k. flagged phaseAt k r)) (edges r TakeFlags)
+hands-held r = join-is (λ k. flagged phaseAt k r) (λ k. edge phaseAt k (r ▸ TakeFlags))

@@ -5,7 +5,7 @@ use mathlib.Core.Bool.{Bool, true, false, not, _&&_}
 use lib.Dec.{leb, ltb, eqb}
 use Rattle.base.specs.Pick.{pick}
 use Rattle.base.specs.Told.{Told, accepted, refused}
-use Rattle.state_parts.specs.Edges.{flagsNumber, noFlags}
+use Rattle.state_parts.specs.Edges.{noFlags}
 use Rattle.step_flags.specs.Edges.{seenOf}
 use Rattle.state_parts.specs.declared.profile.Profile.{Profile}
 use Rattle.state_parts.specs.declared.sample.Sample.{Sample}
@@ -97,5 +97,5 @@ turn-is r e ok = ap (λ b. closed r (pick b (followedOf (stateOf r) e) (refused 
 
 -- a power-on, whatever was seen before it
 pub opened-is : (p : Profile) → profileOk p ≡ true → (m : Model) → finishOf (seenOn m) (startState p) Powers ≡ acceptedAt (powered p)
-unfolding finishOf pulsed handedBack flagsNumber
+unfolding finishOf pulsed handedBack
 opened-is p ok m = λ i. record { number = 0; place = 0; model = On (powered-is p ok i); pulse = true; handed = noFlags }

@@ -1,10 +1,10 @@
 -- The account, the flags: which edges an event brings, and which flags are held after a run.
-use Prim.Native.Nat.{ℕ}
+use Prim.Native.Nat.{ℕ, _+_, _*_, _/_, _%_, _^_}
 use mathlib.Core.Bool.{Bool, true, false, not, _&&_, _||_}
+use mathlib.Core.List.{List, [], _∷_}
 use lib.Dec.{eqb}
-use Rattle.state_parts.specs.Edges.{flagsNumber, pulseOf}
+use Rattle.base.specs.Pick.{bitOf}
 use Rattle.state_parts.specs.Numbers.{phaseNumber, bandNumber}
-use Rattle.state_parts.specs.declared.flags.Edges.{Edges}
 use Rattle.state_parts.specs.declared.phase.Phase.{Phase}
 use Rattle.settle_permission.specs.Bits.{iindpmOf, vindpmOf, thermalOf, shutdownOf}
 use Rattle.laws_account.specs.History.{Run, powered, _▸_, since}
@@ -32,26 +32,21 @@ placeOf shutdown = 9
 placeOf packover = 10
 placeOf limit = 11
 
--- the flags, each by its test
-abbrev pub edgesBy : (Flag → Bool) → Edges
-edgesBy test = record {
-  good = test good;
-  lost = test lost;
-  iindpm = test iindpm;
-  vindpm = test vindpm;
-  thermal = test thermal;
-  expired = test expiry;
-  phase = test phase;
-  band = test band;
-  inputover = test inputover;
-  shutdown = test shutdown;
-  packover = test packover;
-  limit = test limit;
-}
+abbrev pub everyFlag : List Flag
+everyFlag = good ∷ lost ∷ iindpm ∷ vindpm ∷ thermal ∷ expiry ∷ phase ∷ band ∷ inputover ∷ shutdown ∷ packover ∷ limit ∷ []
 
--- and their number
+-- the number of some flags: each for which a test holds adds its bit
+abbrev pub sumOf : (Flag → Bool) → List Flag → ℕ
+sumOf test [] = 0
+sumOf test (k ∷ ks) = bitOf (test k) * 2 ^ placeOf k + sumOf test ks
+
 abbrev pub flagsBy : (Flag → Bool) → ℕ
-flagsBy test = flagsNumber (edgesBy test)
+flagsBy test = sumOf test everyFlag
+
+-- a test holds for some flag
+abbrev pub anyOf : (Flag → Bool) → List Flag → Bool
+anyOf test [] = false
+anyOf test (k ∷ ks) = test k || anyOf test ks
 
 -- "Flags, on an edge between the state before the event and the state after settling": two moments, one event apart
 abbrev pub begins : (Run → Bool) → Run → Bool
@@ -75,6 +70,10 @@ wasTaken (r ▸ TakeFlags) = true
 wasTaken (r ▸ Observe x) = false
 wasTaken (r ▸ Service) = false
 wasTaken (r ▸ Reset) = false
+
+-- a flag's bit of the masks, setting 14, is 0
+abbrev pub unmasked : Flag → Run → Bool
+unmasked k r = eqb (settingOf 14 r / 2 ^ placeOf k % 2) 0
 
 module _ (P : Run → Phase) where
   -- "bit 0 input good, 1 input lost, 2-4 IINDPM, VINDPM, thermal regulation begin, 5 watchdog expired, 6 phase changed, 7 band changed, 8 VIN over, 9 thermal shutdown,
@@ -110,4 +109,4 @@ module _ (P : Run → Phase) where
   -- "One pulse per event with an unmasked edge, by the masks after it." "Power-on sets flags to 32 and pulses."
   unfoldable pub pulsed : Run → Bool
   pulsed (powered p) = true
-  pulsed (r ▸ e) = pulseOf (edgesBy (λ k. edge k (r ▸ e))) (settingOf 14 (r ▸ e))
+  pulsed (r ▸ e) = anyOf (λ k. edge k (r ▸ e) && unmasked k (r ▸ e)) everyFlag
