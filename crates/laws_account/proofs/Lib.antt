@@ -11,6 +11,7 @@ pub mod Judging
 pub mod Settling
 mod Raising
 mod Starting
+mod Refusing
 pub mod Powering
 mod Stepping
 pub mod Agreeing

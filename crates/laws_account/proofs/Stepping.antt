@@ -34,6 +34,7 @@ use Rattle.laws_account.specs.Refused.{refusalIn, Past, some}
 use Rattle.laws_account.specs.States.{stateBy, stateOf, modelOf, comesTo}
 use Rattle.laws_account.proofs.Found.{writtenBy}
 use Rattle.laws_account.proofs.Powering.{powered-is}
+use Rattle.laws_account.proofs.Refusing.{set-refused, frequency-refused}
 use Rattle.laws_account.proofs.Raising.{ended, finish-is, kept-is, hands-none, taken-is, hands-held}
 
 -- what an accepted event comes to
@@ -83,9 +84,12 @@ three-tests false false false w r e h = h
 
 pub followed-is : (r : Run) (e : Later) → closed r (followedOf (stateOf r) e) ≡ nextAt (refusalIn r e) r e
 unfolding followedOf refusalIn setOf writtenOf writeOf observeOf wasObserved wasTaken elapsed stateBy
-followed-is r (Set n v) = two-tests (not (knownSetting (profileOf r) n)) (not (mayHold (profileOf r) n v)) 8 9 _ r (Set n v) refl refl (plain-is r (Set n v) refl refl)
+followed-is r (Set n v) =
+    two-tests (not (knownSetting (profileOf r) n)) (not (mayHold (profileOf r) n v)) 8 9 _ r (Set n v) refl refl (plain-is r (Set n v) refl refl)
+    ∙ ap (λ k. nextAt k r (Set n v)) (set-refused (profileOf r) n v 8 9)
 followed-is r (Write a b) =
     three-tests (not (leb 0x15 a && leb a 0x1C)) (not (leb b 255)) (eqb a 0x16 && not (frequencyOk (profileOf r) b)) _ r (Write a b) (plain-is r (Write a b) refl refl)
+    ∙ ap (λ bad. nextAt (pick (not (leb 0x15 a && leb a 0x1C)) 10 (pick (not (leb b 255)) 5 (pick (eqb a 0x16 && bad) 11 0))) r (Write a b)) (frequency-refused (profileOf r) b)
 followed-is r TakeFlags = taken-next r
 followed-is r (Observe x) = one-test (ltb 3600000 (elapsed (r ▸ Observe x))) 7 _ r (Observe x) refl (observed-is r x)
 followed-is r Service = plain-is r Service refl refl

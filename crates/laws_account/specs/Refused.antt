@@ -1,12 +1,12 @@
 -- The account, refusals: with what number an event is refused after a run, 0 where it is accepted; and the history that a list of events leaves.
-use Prim.Native.Nat.{ℕ}
+use Prim.Native.Nat.{ℕ, _%_}
 use mathlib.Core.Path.{_≡_}
-use mathlib.Core.Bool.{true, not, _&&_}
+use mathlib.Core.Bool.{Bool, true, not, _&&_, _||_}
 use mathlib.Core.List.{List, [], _∷_}
 use lib.Dec.{leb, ltb, eqb}
 use Rattle.base.specs.Pick.{pick}
-use Rattle.state_fields.specs.Rows.{fsw, frequencyOk}
-use Rattle.state_settings.specs.Ranges.{knownSetting, mayHold}
+use Rattle.state_parts.specs.declared.profile.Profile.{Profile}
+use Rattle.state_settings.specs.Ranges.{rangeOf}
 use Rattle.state_valid.specs.Holds.{profileOk}
 use Rattle.step_turns.specs.Turns.{turnOf}
 use Rattle.step_turns.specs.Promises.{LaterFits}
@@ -18,15 +18,25 @@ use Rattle.step_turns.specs.declared.later.Later.{Later}
 use Rattle.step_turns.specs.declared.later.Later.the-variants.{Set, Write, TakeFlags, Observe, Service, Reset}
 use Rattle.laws_account.specs.Held.{profileOf, elapsed}
 
+-- 9: "setting value outside its range or off its step"
+abbrev pub badValue : Profile → ℕ → ℕ → Bool
+badValue p number value =
+    let range = rangeOf p number in
+    ltb value (range .low) || ltb (range .high) value || not (eqb (value % range .step) 0)
+
+-- 11: "FSW (0x16 bits 2:0) written 0 or 7"
+abbrev pub badFrequency : ℕ → Bool
+badFrequency byte = eqb (byte % 8) 0 || eqb (byte % 8) 7
+
 -- "Model order: 6, 10, 5, 11 for writes; 6, 8, 9 for sets; 6, 5, 7 for observations."
 unfoldable pub refusalIn : Run → Later → ℕ
--- 8: "setting number not 1-14"; 9: "setting value outside its range or off its step"
-refusalIn r (Set number value) = pick (not (knownSetting (profileOf r) number)) 8 (pick (not (mayHold (profileOf r) number value)) 9 0)
--- 10: "address not 0x15-0x1C"; 5: "a number outside kind 1, 3 or 5's ranges"; 11: "FSW (0x16 bits 2:0) written 0 or 7"
+-- 8: "setting number not 1-14"
+refusalIn r (Set number value) = pick (not (leb 1 number && leb number 14)) 8 (pick (badValue (profileOf r) number value) 9 0)
+-- 10: "address not 0x15-0x1C"; 5: "a number outside kind 1, 3 or 5's ranges"
 refusalIn r (Write address byte) =
     pick (not (leb 0x15 address && leb address 0x1C)) 10
     (pick (not (leb byte 255)) 5
-    (pick (eqb address (fsw .address) && not (frequencyOk (profileOf r) byte)) 11 0))
+    (pick (eqb address 0x16 && badFrequency byte) 11 0))
 refusalIn r TakeFlags = 0
 -- 7: "stamp more than 3,600,000 ms ahead"
 refusalIn r (Observe x) = pick (ltb 3600000 (elapsed (r ▸ Observe x))) 7 0
