@@ -7,7 +7,6 @@ use lib.ListN.{getD}
 use lib.Dec.{leb, ltb, eqb}
 use Rattle.base.specs.Pick.{pick}
 use Rattle.state_parts.specs.Numbers.{phaseNumber}
-use Rattle.state_parts.specs.Stages.{inTrickle, inPrecharge, inFast, limitUnits}
 use Rattle.state_parts.specs.declared.phase.Phase.{Phase}
 use Rattle.state_parts.specs.declared.phase.Phase.the-variants.{Idle, Trickle, Precharge, Fast, Taper, Done, Suspended, Fault}
 use Rattle.state_parts.specs.declared.profile.Profile.{Profile}
@@ -25,10 +24,11 @@ limitOf trickle p = p .trickle
 limitOf precharge p = p .precharge
 limitOf fast p = p .fast
 
+-- the phases in each: "1 trickle (short); 2 precharge (low); 4 taper, ..; 3 fast"
 abbrev pub heldIn : Stage → Phase → Bool
-heldIn trickle = inTrickle
-heldIn precharge = inPrecharge
-heldIn fast = inFast
+heldIn trickle phase = eqb (phaseNumber phase) 1
+heldIn precharge phase = eqb (phaseNumber phase) 2
+heldIn fast phase = eqb (phaseNumber phase) 3 || eqb (phaseNumber phase) 4
 
 -- "two units per ms, one while the old sample shows any regulation"
 unfoldable pub unitsAfter : Run → ℕ → ℕ
@@ -36,7 +36,7 @@ unitsAfter r ms = pick (regulated r) ms (ms * 2)
 
 -- "A limit of s seconds is reached at 2,000s units; a limit 0 counts nothing."
 abbrev pub reaches : ℕ → ℕ → Bool
-reaches limit units = not (eqb limit 0) && leb (limitUnits limit) units
+reaches limit units = not (eqb limit 0) && leb (limit * 2000) units
 
 -- From here on P is the phase at each moment. The rule for the phase after r ▸ e, `phaseBy`, reads P at r and before alone.
 module _ (P : Run → Phase) where

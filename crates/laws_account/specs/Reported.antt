@@ -1,12 +1,10 @@
 -- The account, what is reported after a run.
 use Prim.Native.Nat.{ℕ, _*_, _/_, min}
 use mathlib.Core.Bool.{Bool, not, _&&_}
-use lib.Dec.{ltb, eqb}
+use lib.Dec.{leb, ltb, eqb}
 use Rattle.base.specs.Pick.{pick}
 use Rattle.base.specs.Volts.{packOf}
 use Rattle.base.specs.declared.units.PackMv.{PackMv}
-use Rattle.state_parts.specs.Stages.{charging}
-use Rattle.report_state.specs.Report.{trickleCurrent}
 use Rattle.report_state.specs.declared.answer.Report.{Report}
 use Rattle.laws_account.specs.History.{Run}
 use Rattle.laws_account.specs.Held.{profileOf}
@@ -22,14 +20,16 @@ fastAt r = min (settingOf 2 r) (chargeClamp r) * shareIn (bandAt r) r / 100
 unfoldable pub limitAt : Run → ℕ
 limitAt r = pick (enabled 12 r && ltb 0 (profileOf r .ohms)) (min (settingOf 5 r) (3333000 / profileOf r .ohms)) (settingOf 5 r)
 
--- "Phases 1-4 report current and voltage, others zeros." "Current: 100; IPRECHG; else .."
+-- "Phases 1-4 report current and voltage, others zeros."
+abbrev pub reports : Run → Bool
+reports r = leb 1 (numberAt phaseAt r) && leb (numberAt phaseAt r) 4
+
+-- "Current: 100; IPRECHG; else .."
 unfoldable pub currentAt : Run → ℕ
-currentAt r =
-    let phase = numberAt phaseAt r in
-    pick (not (charging (phaseAt r))) 0 (pick (eqb phase 1) (trickleCurrent (profileOf r)) (pick (eqb phase 2) (settingOf 3 r) (fastAt r)))
+currentAt r = pick (not (reports r)) 0 (pick (eqb (numberAt phaseAt r) 1) 100 (pick (eqb (numberAt phaseAt r) 2) (settingOf 3 r) (fastAt r)))
 
 unfoldable pub voltageAt : Run → PackMv
-voltageAt r = pick (charging (phaseAt r)) (chargeVoltage r) (packOf 0)
+voltageAt r = pick (reports r) (chargeVoltage r) (packOf 0)
 
 unfoldable pub reportAt : Run → Report
 reportAt r = record { phase = phaseAt r; current = currentAt r; voltage = voltageAt r; limit = limitAt r }
