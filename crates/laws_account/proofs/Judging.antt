@@ -32,8 +32,7 @@ use Rattle.laws_account.specs.History.{Run, powered, _▸_, since}
 use Rattle.step_turns.specs.declared.later.Later.{Later}
 use Rattle.laws_account.specs.Held.{profileOf, sampleOf, wasObserved, wasReset, cellsOf}
 use Rattle.laws_account.specs.Valued.{pinFault, givenBy, settingOf}
-use Rattle.laws_account.specs.Judged.{vbat, packClamp, baseAt, inputOk, inputOver, inputGood, short, low, lowEnds, packOver, bandAt, suspendedIn, suspended, cutIn, chargeVoltage, permitted, tapering, rechargeDue, ending}
-use Rattle.settle_levels.specs.Comparators.{shortReturnsAt, shortEndsAt}
+use Rattle.laws_account.specs.Judged.{vbat, packClamp, baseAt, inputOk, inputOver, inputGood, cellPoint, short, low, lowEnds, packOver, bandAt, suspendedIn, suspended, cutIn, chargeVoltage, permitted, tapering, rechargeDue, ending}
 use Rattle.laws_account.specs.Cycles.{isDone, wasDone, limitFound, fault, phaseAt}
 use Rattle.laws_account.specs.States.{settingsAt, registersAt, latchesAt, watchdogAt}
 use Rattle.laws_account.proofs.Choices.{held-since, forced-since, barred-since}
@@ -102,7 +101,7 @@ module _ (r : Run) (e : Later) where
   latches-are = λ i. record {
     inputok = held-since (leb 2900 (sampleOf m .input)) (leb 2350 (sampleOf m .input)) (inputOk r) i;
     inputover = held-since (leb 36300 (sampleOf m .input)) (leb 34500 (sampleOf m .input)) (inputOver r) i;
-    short = forced-since (pinFault m) (below (vbat m) (inPack (shortReturnsAt (profileOf m) (cellsOf m)) (cellsOf m))) (below (vbat m) (inPack (shortEndsAt (profileOf m) (cellsOf m)) (cellsOf m))) (short r) i;
+    short = forced-since (pinFault m) (below (vbat m) (cellPoint 1850 2000 m)) (below (vbat m) (cellPoint 2150 2200 m)) (short r) i;
     low = forced-since (pinFault m) (belowShare (vbat m) (baseAt m) (lowEnds m - 50)) (belowShare (vbat m) (baseAt m) (lowEnds m)) (low r) i;
     packover = barred-since (pinFault m) (not (belowShare (vbat m) (baseAt m) 1040)) (not (belowShare (vbat m) (baseAt m) 1020)) (packOver r) i;
   }

@@ -3,7 +3,7 @@ use Prim.Native.Nat.{ℕ, _*_, _-_, _<_, min}
 use native.Mathlib.Omega.{arith}
 use mathlib.Core.Path.{_≡_, refl, sym, ap, _∙_}
 use mathlib.Core.Bool.{Bool, true, false, not, _&&_, _||_}
-use Rattle.base.specs.Units.{inPack, below, belowShare}
+use Rattle.base.specs.Units.{below, belowShare}
 use Rattle.state_parts.specs.Edges.{noFlags, powerOnFlags}
 use Rattle.state_parts.specs.declared.band.Band.the-variants.{Normal}
 use Rattle.state_parts.specs.declared.phase.Phase.the-variants.{Idle}
@@ -13,7 +13,7 @@ use Rattle.state_start.specs.Values.{startSettings, startRegisters, startLatche
 use Rattle.state_valid.specs.Holds.{profileOk}
 use Rattle.settle_bands.specs.Thresholds.{bandOf}
 use Rattle.settle_levels.specs.Clamps.{faultOf, packClampOf, baseOf}
-use Rattle.settle_levels.specs.Comparators.{shortReturnsAt, shortEndsAt, shortOf, lowOf, packOverOf, latchesOf}
+use Rattle.settle_levels.specs.Comparators.{shortOf, lowOf, packOverOf, latchesOf}
 use Rattle.settle_permission.specs.Permission.{permittedOf}
 use Rattle.settle_phases.specs.Cycles.{cycleOf}
 use Rattle.settle_phases.specs.Order.{judgedOf, clearsOf, endsOf, phaseOf}
@@ -23,7 +23,7 @@ use Rattle.state_parts.specs.With.{withFlags}
 use Rattle.laws_account.specs.History.{Run, powered, since, sumAfter, count}
 use Rattle.laws_account.specs.Held.{profileOf, sampleOf, unserved, overridden, cellsOf, byteOf}
 use Rattle.laws_account.specs.Valued.{pinFault, startValue, settingOf}
-use Rattle.laws_account.specs.Judged.{vbat, packClamp, baseAt, lowEnds, inputOk, inputOver, inputGood, short, low, packOver, bandAt, permitted}
+use Rattle.laws_account.specs.Judged.{vbat, packClamp, baseAt, lowEnds, inputOk, inputOver, inputGood, cellPoint, short, low, packOver, bandAt, permitted}
 use Rattle.laws_account.specs.Cycles.{isDone, timeIn, phaseBy, phasesOf, phaseAt}
 use Rattle.laws_account.specs.Flagged.{wasTaken, flagged}
 use Rattle.laws_account.specs.States.{settingsAt, registersAt, latchesAt, watchdogAt, cycleAt, flagsAt, stateBy, stateOf}
@@ -90,7 +90,7 @@ module _ (p : Profile) where
 
   module _ (ok : profileOk p ≡ true) where
     abbrev shortReturns : Bool
-    shortReturns = below (vbat on) (inPack (shortReturnsAt p (p .cell)) (p .cell))
+    shortReturns = below (vbat on) (cellPoint 1850 2000 on)
 
     short-start : (fault stays : Bool) → pinFault on ≡ fault → (fault || (shortReturns || (true && stays))) ≡ true
     short-start true stays h = refl
@@ -109,7 +109,7 @@ module _ (p : Profile) where
     latches-start = λ i. record {
       inputok = false;
       inputover = false;
-      short = short-start (pinFault on) (below (vbat on) (inPack (shortEndsAt p (p .cell)) (p .cell))) refl i;
+      short = short-start (pinFault on) (below (vbat on) (cellPoint 2150 2200 on)) refl i;
       low = low-start (pinFault on) (belowShare (vbat on) (baseAt on) (lowEnds on)) (lowEnds on - 50) (low-pos p) refl i;
       packover = over-start (pinFault on) (not (belowShare (vbat on) (baseAt on) 1020)) refl i;
     }

@@ -17,11 +17,10 @@ use Rattle.base.proofs.Tests.{leb-iff, and-iff}
 use Rattle.state_parts.specs.Pins.{vchgOf}
 use Rattle.state_parts.specs.declared.profile.Profile.{Profile}
 use Rattle.state_valid.specs.Holds.{profileOk}
-use Rattle.settle_levels.specs.Comparators.{shortReturnsAt}
 use Rattle.laws_account.specs.History.{powered}
 use Rattle.laws_account.specs.Held.{profileOf, sampleOf, overridden, cellsOf}
 use Rattle.laws_account.specs.Valued.{pinFault, startValue, settingOf}
-use Rattle.laws_account.specs.Judged.{vbat, packClamp, baseAt}
+use Rattle.laws_account.specs.Judged.{vbat, packClamp, baseAt, cellPoint}
 
 nonzero : (n : ℕ) → eqb n 0 ≡ false → 0 < n
 nonzero zero h = absurd (true≢false h)
@@ -69,10 +68,12 @@ module _ (p : Profile) (ok : profileOk p ≡ true) (sound : pinFault (powered p)
       pos-pick (λ (v : PackMv). v .0) (leb (startValue p (p .cell) 1) (volts .0)) (packOf (startValue p (p .cell) 1)) volts
       (pos-pick (λ n. n) (eqb (p .vchg) 0 || eqb (p .cell) 0) 2400 (volts .0) (omega arith) some) some
 
-  pub below-short : below (vbat (powered p)) (inPack (shortReturnsAt p (p .cell)) (p .cell)) ≡ true
-  unfolding vbat sampleOf
+  pub below-short : below (vbat (powered p)) (cellPoint 1850 2000 (powered p)) ≡ true
+  unfolding vbat sampleOf cellsOf
   below-short =
-      lt-ltb 0 _ (pos-pack (shortReturnsAt p (p .cell)) (p .cell) (pos-pick (λ (v : CellMv). v .0) (leb (p .cell) 2) (record { 0 = 1850 }) (record { 0 = 2000 }) (omega arith) (omega arith)) cells-pos)
+      let few : CellMv = record { 0 = 1850 } in
+      let many : CellMv = record { 0 = 2000 } in
+      lt-ltb 0 _ (pos-pack (pick (leb (p .cell) 2) few many) (p .cell) (pos-pick (λ (v : CellMv). v .0) (leb (p .cell) 2) few many (omega arith) (omega arith)) cells-pos)
 
   pub below-any : (share : ℕ) → 0 < share → belowShare (vbat (powered p)) (baseAt (powered p)) share ≡ true
   unfolding belowShare vbat sampleOf

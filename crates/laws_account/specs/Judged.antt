@@ -15,7 +15,7 @@ use Rattle.state_parts.specs.declared.band.Band.the-variants.{Normal, Cold, Coo
 use Rattle.state_fields.specs.Rows.{enTs, enJeita, tsTh1, tsTh2, tsTh3, tsTh5, jeitaIsetc, jeitaIseth, jeitaVset}
 use Rattle.settle_bands.specs.Thresholds.{th1At, th2At, th3At, th5At}
 use Rattle.settle_bands.specs.Effect.{coolShare, warmShare, warmCut}
-use Rattle.settle_levels.specs.Comparators.{shortReturnsAt, shortEndsAt, lowEndsAt}
+use Rattle.settle_levels.specs.Comparators.{lowEndsAt}
 use Rattle.settle_levels.specs.Voltage.{rechargeShareAt}
 use Rattle.settle_permission.specs.Bits.{ceHigh, hizHigh}
 use Rattle.laws_account.specs.History.{Run, powered, _▸_, since}
@@ -57,11 +57,13 @@ atPowerOn (r ▸ e) = false
 abbrev pub faultOrOn : Run → Bool
 faultOrOn m = atPowerOn m || pinFault m
 
+-- a point of 1-2 cells and of 3-7, per cell, in the pack
+abbrev pub cellPoint : ℕ → ℕ → Run → PackMv
+cellPoint few many m = inPack (pick (leb (cellsOf m) 2) (record { 0 = few }) (record { 0 = many })) (cellsOf m)
+
 -- "Short ends at 2,150 per cell, returns below 1,850 (1-2 cells); 2,200 and 2,000 (3-7)."
 unfoldable pub short : Run → Bool
-short =
-    since (λ m. below (vbat m) (inPack (shortEndsAt (profileOf m) (cellsOf m)) (cellsOf m)))
-    (λ m. faultOrOn m || below (vbat m) (inPack (shortReturnsAt (profileOf m) (cellsOf m)) (cellsOf m)))
+short = since (λ m. below (vbat m) (cellPoint 2150 2200 m)) (λ m. faultOrOn m || below (vbat m) (cellPoint 1850 2000 m))
 
 -- "Low ends at 30, 55, 66.7, 71.4% of base by VBAT_LOWV 0-3, returns 5 points lower."
 abbrev pub lowEnds : Run → ℕ
