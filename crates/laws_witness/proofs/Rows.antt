@@ -1,10 +1,6 @@
 -- The account's rows, each computed.
 use mathlib.Core.Path.{refl}
 use Rattle.base.specs.Units.{inPack, belowShare}
-use Rattle.state_start.specs.Values.{startVreg, startIchg, startVsysmin, startSettings}
-use Rattle.state_settings.specs.Numbered.{settingNumbers, heldOf}
-use Rattle.state_fields.specs.Rows.{fields, fieldsAt, takenOf, resetByte}
-use Rattle.settle_permission.specs.Bits.{regulatedOf}
 use Rattle.laws_account.specs.History.{since, sumAfter, count, upTo, lastOf, total}
 use Rattle.laws_account.specs.Held.{profileOf, sampleOf, elapsed, wasObserved, wasReset, wasServed, unserved, expired, overridden, cellsOf, byteOf}
 use Rattle.laws_account.specs.Valued.{pinFault, startValue, settingOf}
@@ -15,5 +11,5 @@ use Rattle.laws_witness.specs.Days.{day, slow, unattended, mild}
 use Rattle.laws_witness.specs.Rows.{toldOf, RowsTold}
 
 pub rows-told : RowsTold
-unfolding day slow unattended mild toldOf inPack belowShare startVreg startIchg startVsysmin startSettings settingNumbers heldOf fields fieldsAt takenOf resetByte regulatedOf since sumAfter count upTo lastOf total profileOf sampleOf elapsed wasObserved wasReset wasServed unserved expired overridden cellsOf byteOf pinFault startValue settingOf vbat packClamp baseAt chargeClamp inputOk inputOver inputGood short low packOver bandAt suspended chargeVoltage permitted tapering rechargeDue ending unitsAfter gave isDone wasDone restarts starts timeIn timeFound limitFound fault chargeEnds phaseBy limitReached phasesOf phaseAt fastAt limitAt currentAt voltageAt reportAt
+unfolding day slow unattended mild toldOf inPack belowShare since sumAfter count upTo lastOf total profileOf sampleOf elapsed wasObserved wasReset wasServed unserved expired overridden cellsOf byteOf pinFault startValue settingOf vbat packClamp baseAt chargeClamp inputOk inputOver inputGood short low packOver bandAt suspended chargeVoltage permitted tapering rechargeDue ending unitsAfter gave isDone wasDone restarts starts timeIn timeFound limitFound fault chargeEnds phaseBy limitReached phasesOf phaseAt fastAt limitAt currentAt voltageAt reportAt
 rows-told = (refl, (refl, (refl, (refl, (refl, (refl, (refl, (refl, (refl, (refl, (refl, (refl, (refl, (refl, (refl, (refl, (refl, (refl, (refl, (refl, tt))))))))))))))))))))
