@@ -16,3 +16,4 @@ pub mod Powering
 mod Stepping
 pub mod Agreeing
 pub mod Logging
+pub mod Looking

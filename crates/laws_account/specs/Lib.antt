@@ -9,3 +9,4 @@ pub mod Reported
 pub mod Refused
 pub mod States
 pub mod Runs
+pub mod Looked
