@@ -5,7 +5,7 @@ use Rattle.state_valid.specs.Holds.{profileOk}
 use Rattle.step_turns.specs.Promises.{laterOk}
 use Rattle.laws_account.specs.History.{Run, powered, _▸_}
 use Rattle.laws_account.specs.Refused.{refusalIn, Accepted}
-use Rattle.laws_demands.proofs.Means.{Means, eqb-means, true-means, and-means}
+use Rattle.laws_third.proofs.Means.{Means, eqb-means, true-means, and-means}
 
 unfoldable pub accepts : Run → Bool
 accepts (powered p) = profileOk p

@@ -6,6 +6,9 @@ use mathlib.Core.Bool.{Bool, true, false, not, _&&_, true≢false}
 use lib.Dec.{eqb}
 use lib.ListN.{getD}
 use Rattle.base.specs.Units.{inPack, belowShare}
+use Rattle.state_parts.specs.Numbers.{bandNumber}
+use Rattle.state_parts.specs.declared.band.Band.{Band}
+use Rattle.state_parts.specs.declared.band.Band.the-variants.{Normal, Cold, Cool, Warm, Hot}
 use Rattle.state_settings.specs.Ranges.{ranges, rangeOf}
 use Rattle.state_valid.specs.Holds.{profileOk, sampleOk}
 use Rattle.laws_account.specs.History.{Run, since, sumAfter, count, upTo}
@@ -13,14 +16,18 @@ use Rattle.laws_account.specs.Held.{profileOf, sampleOf, elapsed, wasObserved, 
 use Rattle.laws_account.specs.Valued.{pinFault, startValue, settingOf}
 use Rattle.laws_account.specs.Judged.{vbat, packClamp, baseAt, inputOk, inputOver, inputGood, short, low, packOver, bandAt, suspended, chargeVoltage, permitted, tapering, rechargeDue, ending}
 use Rattle.laws_account.specs.Cycles.{trickle, precharge, fast, limitOf, reaches, unitsAfter, gave, isDone, wasDone, restarts, starts, timeIn, timeFound, limitFound, fault, chargeEnds, phaseBy, limitReached, phasesOf, phaseAt}
-use Rattle.laws_account.specs.Refused.{refusalIn}
-use Rattle.laws_demands.proofs.Means.{Means, false-means, and-means, not-means, re-means}
-use Rattle.laws_demands.proofs.Crossings.{ok-means, over-means, good-means, short-means, low-means, pack-means}
-use Rattle.laws_demands.proofs.Cycling.{reached-means, any-means, done-means}
-use Rattle.laws_demands.proofs.Charges.{faulty, chargesAt}
-use Rattle.laws_demands.proofs.Charging.{allowed, allowed-means, fault-means, suspended-means, tests-mean}
+use Rattle.laws_account.specs.Refused.{Accepted, refusalIn}
+use Rattle.laws_third.specs.Banded.{InBand}
+use Rattle.laws_third.proofs.Means.{Means, eqb-means, false-means, and-means, not-means, re-means}
+use Rattle.laws_third.proofs.Bands.{one-band, suspended-means, tapering-means}
+use Rattle.laws_third.proofs.Crossings.{ok-means, over-means, good-means, short-means, low-means, pack-means, recharge-means}
+use Rattle.laws_third.proofs.Ended.{restartsNow, endsNow}
+use Rattle.laws_third.proofs.Allowing.{allowed, allowed-means, fault-means}
+use Rattle.laws_third.proofs.Cycling.{reached-means, within-means, restarts-means, starts-means, ends-means, done-means}
+use Rattle.laws_third.proofs.Charges.{faulty, chargesAt}
+use Rattle.laws_third.proofs.Charging.{tests-mean}
 use Rattle.laws_witness.specs.Days.{day, slow, unattended, mild, packs, inputs, stays}
-use Rattle.laws_witness.specs.Clauses.{Part, goodInput, permission, noFault, noSuspension, notDone, noLimit, partOf, stopped, placeOf, Clause, part, okInput, overInput, shorted, lowPack, overPack, reached, ended, charges, inTrickle, inPrecharge, otherwise, clamped, clauseOf, meeting, failing, EachTried, EachAlone}
+use Rattle.laws_witness.specs.Clauses.{Part, goodInput, permission, noFault, noSuspension, notDone, noLimit, partOf, stopped, placeOf, Clause, part, okInput, overInput, shorted, lowPack, overPack, belowRecharge, tapers, banded, reached, restarted, started, ends, ended, charges, inTrickle, inPrecharge, otherwise, clamped, clauseOf, meeting, failing, EachTried, EachAlone}
 use Rattle.laws_witness.proofs.Accepting.{accepts, accepts-means}
 
 -- the test of each part and of each clause
@@ -32,13 +39,29 @@ partTest noSuspension r = not (suspended r)
 partTest notDone r = not (isDone phaseAt r)
 partTest noLimit r = not (limitReached phaseAt r)
 
-part-means : (p : Part) (r : Run) → Means (partTest p r) (partOf p r)
-part-means goodInput r = good-means r
-part-means permission r = allowed-means r
-part-means noFault r = not-means (fault-means r)
-part-means noSuspension r = not-means (suspended-means r)
-part-means notDone r = not-means (done-means r)
-part-means noLimit r = re-means (λ h s t. h (s, t)) (λ h t. h (t .0) (t .1)) (not-means (any-means r))
+part-means : (p : Part) (r : Run) → Accepted r → Means (partTest p r) (partOf p r)
+part-means goodInput r a = good-means r
+part-means permission r a = allowed-means r
+part-means noFault r a = not-means (fault-means r a)
+part-means noSuspension r a = not-means (suspended-means r)
+part-means notDone r a = not-means (done-means r a)
+part-means noLimit r a = within-means r a
+
+-- a band is known by its number
+abbrev numbered : ℕ → Band
+numbered n = getD (Normal ∷ Cold ∷ Hot ∷ Cool ∷ Warm ∷ []) n Normal
+
+numbers-back : (b : Band) → numbered (bandNumber b) ≡ b
+numbers-back Normal = refl
+numbers-back Cold = refl
+numbers-back Hot = refl
+numbers-back Cool = refl
+numbers-back Warm = refl
+
+band-means : (b : Band) (r : Run) → Means (eqb (bandNumber (bandAt r)) (bandNumber b)) (InBand b r)
+band-means b r =
+    re-means (λ e. one-band r b .1 (sym (numbers-back (bandAt r)) ∙ ap numbered e ∙ numbers-back b)) (λ h. ap bandNumber (one-band r b .0 h))
+    (eqb-means (bandNumber (bandAt r)) (bandNumber b))
 
 abbrev test : Clause → Run → Bool
 test (part p) r = partTest p r
@@ -47,6 +70,12 @@ test overInput r = inputOver r
 test shorted r = short r
 test lowPack r = low r
 test overPack r = packOver r
+test belowRecharge r = rechargeDue r
+test tapers r = tapering r
+test (banded b) r = eqb (bandNumber (bandAt r)) (bandNumber b)
+test restarted r = restartsNow r
+test started r = starts phaseAt r
+test ends r = endsNow r
 test (reached s) r = reaches (limitOf s (profileOf r)) (timeIn phaseAt s r)
 test ended r = isDone phaseAt r
 test charges r = chargesAt phaseAt r
@@ -55,24 +84,30 @@ test inPrecharge r = chargesAt phaseAt r && (not (short r) && low r)
 test otherwise r = chargesAt phaseAt r && (not (short r) && not (low r))
 test clamped r = not (overridden ichg r)
 
-means : (c : Clause) (r : Run) → Means (test c r) (clauseOf c r)
-means (part p) r = part-means p r
-means okInput r = ok-means r
-means overInput r = over-means r
-means shorted r = short-means r
-means lowPack r = low-means r
-means overPack r = pack-means r
-means (reached s) r = reached-means s r
-means ended r = done-means r
-means charges r = tests-mean r
-means inTrickle r = and-means (tests-mean r) (short-means r)
-means inPrecharge r =
+means : (c : Clause) (r : Run) → Accepted r → Means (test c r) (clauseOf c r)
+means (part p) r a = part-means p r a
+means okInput r a = ok-means r
+means overInput r a = over-means r
+means shorted r a = short-means r a
+means lowPack r a = low-means r a
+means overPack r a = pack-means r a
+means belowRecharge r a = recharge-means r a
+means tapers r a = tapering-means r a
+means (banded b) r a = band-means b r
+means (reached s) r a = reached-means s r a
+means restarted r a = restarts-means r a
+means started r a = starts-means r a
+means ends r a = ends-means r a
+means ended r a = done-means r a
+means charges r a = tests-mean r a
+means inTrickle r a = and-means (tests-mean r a) (short-means r a)
+means inPrecharge r a =
     re-means (λ h. (h .0, h .1 .0, h .1 .1)) (λ h. (h .0, (h .1, h .2)))
-    (and-means (tests-mean r) (and-means (not-means (short-means r)) (low-means r)))
-means otherwise r =
+    (and-means (tests-mean r a) (and-means (not-means (short-means r a)) (low-means r a)))
+means otherwise r a =
     re-means (λ h. (h .0, h .1 .0, h .1 .1)) (λ h. (h .0, (h .1, h .2)))
-    (and-means (tests-mean r) (and-means (not-means (short-means r)) (not-means (low-means r))))
-means clamped r = false-means (overridden ichg r)
+    (and-means (tests-mean r a) (and-means (not-means (short-means r a)) (not-means (low-means r a))))
+means clamped r a = false-means (overridden ichg r)
 
 -- what is computed: the clause at the run that meets it and at the one that doesn't, and that both are accepted
 abbrev Computed : Clause → Type 0
@@ -92,6 +127,16 @@ computed overInput = (refl, refl, refl, refl)
 computed shorted = (refl, refl, refl, refl)
 computed lowPack = (refl, refl, refl, refl)
 computed overPack = (refl, refl, refl, refl)
+computed belowRecharge = (refl, refl, refl, refl)
+computed tapers = (refl, refl, refl, refl)
+computed (banded Normal) = (refl, refl, refl, refl)
+computed (banded Cold) = (refl, refl, refl, refl)
+computed (banded Cool) = (refl, refl, refl, refl)
+computed (banded Warm) = (refl, refl, refl, refl)
+computed (banded Hot) = (refl, refl, refl, refl)
+computed restarted = (refl, refl, refl, refl)
+computed started = (refl, refl, refl, refl)
+computed ends = (refl, refl, refl, refl)
 computed (reached trickle) = (refl, refl, refl, refl)
 computed (reached precharge) = (refl, refl, refl, refl)
 computed (reached fast) = (refl, refl, refl, refl)
@@ -105,11 +150,13 @@ computed clamped = (refl, refl, refl, refl)
 pub each-tried : EachTried
 each-tried c =
     let k = computed c in
+    let met = accepts-means (meeting c) .fact (k .2) in
+    let failed = accepts-means (failing c) .fact (k .3) in
     record {
-      meets = means c (meeting c) .fact (k .0);
-      fails = λ h. true≢false (sym (means c (failing c) .test h) ∙ k .1);
-      met = accepts-means (meeting c) .fact (k .2);
-      failed = accepts-means (failing c) .fact (k .3);
+      meets = means c (meeting c) met .fact (k .0);
+      fails = λ h. true≢false (sym (means c (failing c) failed .test h) ∙ k .1);
+      met = met;
+      failed = failed;
     }
 
 -- each part at each run that was stopped by one
@@ -138,4 +185,4 @@ at-place c notDone = ap (λ l. getD l 4 false) (stopped-tests c)
 at-place c noLimit = ap (λ l. getD l 5 false) (stopped-tests c)
 
 pub each-alone : EachAlone
-each-alone c d e = part-means d (stopped c) .fact (at-place c d ∙ ap not e)
+each-alone c d e = part-means d (stopped c) (each-tried (part c) .failed) .fact (at-place c d ∙ ap not e)

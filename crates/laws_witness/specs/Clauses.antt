@@ -3,14 +3,18 @@ use Prim.Native.Nat.{ℕ}
 use mathlib.Core.Path.{_≡_}
 use mathlib.Core.Bool.{false}
 use lib.Dec.{eqb}
+use Rattle.state_parts.specs.declared.band.Band.{Band}
+use Rattle.state_parts.specs.declared.band.Band.the-variants.{Normal, Cold, Cool, Warm, Hot}
 use Rattle.laws_account.specs.History.{Run, _▸_}
 use Rattle.step_turns.specs.declared.later.Later.the-variants.{Set}
 use Rattle.laws_account.specs.Held.{ichg, overridden}
 use Rattle.laws_account.specs.Cycles.{Stage, trickle, precharge, fast}
 use Rattle.laws_account.specs.Refused.{Accepted}
-use Rattle.laws_demands.specs.Crossed.{InputOk, InputOver, InputGood, Short, Low, PackOver}
-use Rattle.laws_demands.specs.Stages.{Reached, Done}
-use Rattle.laws_demands.specs.Demand.{Permitted, Fault, Suspending, Charging}
+use Rattle.laws_third.specs.Crossed.{InputOk, InputOver, InputGood, Short, Low, PackOver, BelowRecharge}
+use Rattle.laws_third.specs.Stages.{Restarts, Starts, Reached, Ends, Done}
+use Rattle.laws_third.specs.Banded.{InBand, Suspending, Tapering}
+use Rattle.laws_third.specs.Allowed.{Permitted, Fault}
+use Rattle.laws_third.specs.Demand.{Charging}
 use Rattle.laws_witness.specs.Days.{sees, dayAt, slow, unattended, mild, packs, inputs, stays}
 
 -- "the input is good, charge is permitted, no fault or suspending temperature holds, the cycle isn't done, and no stage with a limit has reached it"
@@ -45,9 +49,10 @@ placeOf noLimit = 5
 -- the crossed thresholds and the left sides of the demand's other sentences
 pub data Clause : Type 0 where
   part : Part → Clause
-  okInput overInput shorted lowPack overPack : Clause
+  okInput overInput shorted lowPack overPack belowRecharge tapers : Clause
+  banded : Band → Clause
   reached : Stage → Clause
-  ended : Clause
+  restarted started ends ended : Clause
   charges inTrickle inPrecharge otherwise clamped : Clause
 
 abbrev pub clauseOf : Clause → Run → Type 0
@@ -57,7 +62,13 @@ clauseOf overInput r = InputOver r
 clauseOf shorted r = Short r
 clauseOf lowPack r = Low r
 clauseOf overPack r = PackOver r
+clauseOf belowRecharge r = BelowRecharge r
+clauseOf tapers r = Tapering r
+clauseOf (banded b) r = InBand b r
 clauseOf (reached s) r = Reached s r
+clauseOf restarted r = Restarts r
+clauseOf started r = Starts r
+clauseOf ends r = Ends r
 clauseOf ended r = Done r
 clauseOf charges r = Charging r
 clauseOf inTrickle r = Charging r × Short r
@@ -73,9 +84,19 @@ meeting overInput = inputs 36300 35000
 meeting shorted = packs 3000 4000
 meeting lowPack = packs 5000 5800
 meeting overPack = packs 8800 8600
+meeting belowRecharge = dayAt 8
+meeting tapers = dayAt 4
+meeting (banded Normal) = mild 55000
+meeting (banded Cold) = mild 80000
+meeting (banded Cool) = mild 70000
+meeting (banded Warm) = mild 40000
+meeting (banded Hot) = mild 30000
 meeting (reached trickle) = stays 3000 31000
 meeting (reached precharge) = stays 5000 41000
 meeting (reached fast) = slow 41000
+meeting restarted = dayAt 8
+meeting started = dayAt 10
+meeting ends = dayAt 5
 meeting ended = dayAt 6
 meeting charges = dayAt 1
 meeting inTrickle = dayAt 1
@@ -90,9 +111,19 @@ failing overInput = inputs 12000 35000
 failing shorted = packs 7000 4000
 failing lowPack = packs 7000 5800
 failing overPack = packs 7000 8600
+failing belowRecharge = dayAt 7
+failing tapers = dayAt 3
+failing (banded Normal) = mild 70000
+failing (banded Cold) = mild 70000
+failing (banded Cool) = mild 80000
+failing (banded Warm) = mild 30000
+failing (banded Hot) = mild 40000
 failing (reached trickle) = stays 3000 30999
 failing (reached precharge) = stays 5000 40999
 failing (reached fast) = slow 40999
+failing restarted = dayAt 7
+failing started = dayAt 9
+failing ends = dayAt 6
 failing ended = dayAt 8
 failing charges = dayAt 0
 failing inTrickle = dayAt 2

@@ -4,11 +4,10 @@ use mathlib.Core.Path.{_≡_}
 use mathlib.Core.List.{List, [], _∷_}
 use mathlib.Core.Bool.{Bool, true, false}
 use Rattle.base.specs.Volts.{millivoltsOf}
-use Rattle.laws_account.specs.History.{Run}
+use Rattle.laws_account.specs.History.{Run, lastOf}
 use Rattle.laws_account.specs.Held.{expired}
-use Rattle.laws_account.specs.Cycles.{trickle, precharge, fast, numberAt, isDone, limitReached, phaseAt}
+use Rattle.laws_account.specs.Cycles.{trickle, precharge, fast, numberAt, isDone, starts, timeIn, limitReached, phaseAt}
 use Rattle.laws_account.specs.Reported.{reportAt}
-use Rattle.laws_demands.specs.Stages.{cycleStart, timeRun}
 use Rattle.laws_witness.specs.Days.{dayAt, slow, unattended, mild}
 
 -- phase, current and voltage; where the cycle started and each stage's time in it; done, a limit reached, the watchdog expired
@@ -29,10 +28,10 @@ toldOf r = record {
   phase = numberAt phaseAt r;
   current = reportAt r .current;
   voltage = millivoltsOf (reportAt r .voltage);
-  start = cycleStart r;
-  trickle = timeRun trickle r;
-  precharge = timeRun precharge r;
-  fast = timeRun fast r;
+  start = lastOf (starts phaseAt) r;
+  trickle = timeIn phaseAt trickle r;
+  precharge = timeIn phaseAt precharge r;
+  fast = timeIn phaseAt fast r;
   done = isDone phaseAt r;
   limit = limitReached phaseAt r;
   expired = expired r;

@@ -1,0 +1,63 @@
+-- Demand 3, the temperature band: which one holds by the moment's own TS, and what goes by it.
+use Prim.Native.Nat.{ℕ, _+_, _*_, _-_, _≤_}
+use mathlib.Core.Path.{_≡_}
+use mathlib.Core.Logic.{_⊎_, _↔_}
+use Rattle.state_parts.specs.declared.band.Band.{Band}
+use Rattle.state_parts.specs.declared.band.Band.the-variants.{Normal, Cold, Cool, Warm, Hot}
+use Rattle.state_fields.specs.Rows.{enTs, enJeita, tsTh1, tsTh2, tsTh3, tsTh5, jeitaIsetc, jeitaVset}
+use Rattle.settle_bands.specs.Thresholds.{th1At, th2At, th3At, th5At}
+use Rattle.laws_account.specs.History.{Run}
+use Rattle.laws_account.specs.Held.{profileOf, sampleOf, cellsOf, fieldAt}
+use Rattle.laws_account.specs.Judged.{bandAt, cutIn}
+use Rattle.laws_third.specs.Crossed.{base}
+
+-- "EN_TS 0 normal; TS >= TH1 cold; TS <= TH5 hot; with EN_JEITA: TS >= TH2 cool; TS <= TH3 warm"
+abbrev pub Unjudged : Run → Type 0
+Unjudged m = fieldAt enTs m ≡ 0
+
+abbrev pub FromTh1 : Run → Type 0
+FromTh1 m = th1At (profileOf m) (fieldAt tsTh1 m) ≤ sampleOf m .ts
+
+abbrev pub ToTh5 : Run → Type 0
+ToTh5 m = sampleOf m .ts ≤ th5At (profileOf m) (fieldAt tsTh5 m)
+
+abbrev pub FromTh2 : Run → Type 0
+FromTh2 m = (fieldAt enJeita m ≡ 1) × (th2At (profileOf m) (fieldAt tsTh2 m) ≤ sampleOf m .ts)
+
+abbrev pub ToTh3 : Run → Type 0
+ToTh3 m = (fieldAt enJeita m ≡ 1) × (sampleOf m .ts ≤ th3At (profileOf m) (fieldAt tsTh3 m))
+
+-- "Band, first that holds: ..; else normal.": each with what comes before it denied
+abbrev pub InBand : Band → Run → Type 0
+InBand Cold m = (¬ Unjudged m) × FromTh1 m
+InBand Hot m = (¬ Unjudged m) × (¬ FromTh1 m) × ToTh5 m
+InBand Cool m = (¬ Unjudged m) × (¬ FromTh1 m) × (¬ ToTh5 m) × FromTh2 m
+InBand Warm m = (¬ Unjudged m) × (¬ FromTh1 m) × (¬ ToTh5 m) × (¬ FromTh2 m) × ToTh3 m
+InBand Normal m = Unjudged m ⊎ ((¬ FromTh1 m) × (¬ ToTh5 m) × (¬ FromTh2 m) × (¬ ToTh3 m))
+
+-- something said of the band that holds
+abbrev pub ByBand : (Band → Type 0) → Run → Type 0
+ByBand said m = (b : Band) × InBand b m × said b
+
+-- one band holds at each moment: the account's
+abbrev pub OneBand : Type 0
+OneBand = (m : Run) (b : Band) → InBand b m ↔ (bandAt m ≡ b)
+
+-- "6 suspended, cold, hot, cool with JEITA_ISETC 0, warm with JEITA_VSET 0"
+abbrev pub SuspendingIn : Band → Run → Type 0
+SuspendingIn Normal m = ⊥
+SuspendingIn Cold m = Unit {0}
+SuspendingIn Cool m = fieldAt jeitaIsetc m ≡ 0
+SuspendingIn Warm m = fieldAt jeitaVset m ≡ 0
+SuspendingIn Hot m = Unit {0}
+
+abbrev pub Suspending : Run → Type 0
+Suspending m = ByBand (λ b. SuspendingIn b m) m
+
+-- "less in warm 250, 100 or 0 per cell": the band's cut of the pack
+abbrev pub cut : Band → Run → ℕ
+cut b m = cutIn b m .0 * cellsOf m
+
+-- "4 taper, VBAT + 10 >= charge voltage", which is "base, less .."
+abbrev pub Tapering : Run → Type 0
+Tapering m = ByBand (λ b. base m - cut b m ≤ sampleOf m .pack + 10) m
