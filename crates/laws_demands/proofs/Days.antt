@@ -1,4 +1,4 @@
--- A few runs at which wrong products and this one come to different numbers.
+-- Lists of events at which wrong products and this one come to different numbers.
 use Prim.Native.Nat.{ℕ, zero, suc}
 use mathlib.Core.Path.{_≡_, sym, _∙_}
 use mathlib.Core.Bool.{false, false≢true}
@@ -8,64 +8,99 @@ use lib.IntN.{pos}
 use lib.Dec.{eqb}
 use borrow.Author.Tests.{eq-eqb}
 use Rattle.log_event.specs.declared.Event.{Event}
-use Rattle.log_event.specs.declared.Event.the-variants as event
+use Rattle.log_event.specs.declared.Event.the-variants.{PowerOn, Observe}
 use Rattle.log_event.specs.declared.spelled.SpelledProfile.{SpelledProfile}
 use Rattle.log_event.specs.declared.spelled.SpelledSample.{SpelledSample}
+use Rattle.log_number.specs.Promises.{Bytes}
+use Rattle.state_parts.specs.declared.cycle.Cycle.{Cycle}
 use Rattle.state_parts.specs.declared.state.State.{State}
 use Rattle.state_parts.specs.declared.state.Model.{Model}
 use Rattle.state_parts.specs.declared.state.Model.the-variants.{Off, On}
-use Rattle.log_number.specs.Promises.{Bytes}
-use Rattle.laws_account.specs.History.{Run, powered, _▸_}
-use Rattle.step_turns.specs.Turns.{heldProfile, heldSample}
-use Rattle.step_turns.specs.declared.later.Later.the-variants.{Observe}
+use Rattle.step_kinds.specs.Answers.{Outcome}
+use Rattle.laws_account.specs.Cycles.{Stage, trickle, precharge, fast}
 
--- the paper's power-on, with a fast limit of so many seconds
-abbrev pub limited : ℕ → SpelledProfile
-limited fast = record { cell = 2; vchg = 5; ichg = 4; ohms = 0; stamp = 0; ceiling = 4500; trickle = 3600; precharge = 7200; fast = fast; watchdog = 0 }
+-- the paper's power-on, with these limits for trickle, precharge and fast, in seconds
+abbrev pub limits : ℕ → ℕ → ℕ → SpelledProfile
+limits t p f = record { cell = 2; vchg = 5; ichg = 4; ohms = 0; stamp = 0; ceiling = 4500; trickle = t; precharge = p; fast = f; watchdog = 0 }
 
 abbrev pub paper : SpelledProfile
-paper = limited 36000
+paper = limits 3600 7200 36000
 
--- a sample by stamp, VBAT and TS, with the paper's VIN
-abbrev pub seen : ℕ → ℕ → ℕ → SpelledSample
-seen stamp pack ts = record { stamp = stamp; input = 12000; pack = pack; ibat = pos 0; ts = ts; bits = 0 }
+-- stamp, VBAT, IBAT, TS and bits, with the paper's VIN
+abbrev pub sample : ℕ → ℕ → ℕ → ℕ → ℕ → SpelledSample
+sample stamp pack ibat ts bits = record { stamp = stamp; input = 12000; pack = pack; ibat = pos ibat; ts = ts; bits = bits }
 
--- the paper's log
+-- TS normal, IBAT 0, no bit
+abbrev pub seen : ℕ → ℕ → SpelledSample
+seen stamp pack = sample stamp pack 0 55000 0
+
+-- the paper's sample
 abbrev pub sampled : SpelledSample
-sampled = seen 1000 7600 55000
+sampled = seen 1000 7600
 
-abbrev pub on : Run
-on = powered (heldProfile paper)
+abbrev pub observed : List SpelledSample → List Event
+observed [] = []
+observed (x ∷ xs) = Observe x ∷ observed xs
 
-abbrev pub first : Run
-first = on ▸ Observe (heldSample sampled)
+-- a power-on and samples
+abbrev pub day : SpelledProfile → List SpelledSample → List Event
+day p xs = PowerOn p ∷ observed xs
 
-abbrev pub firstEvents : List Event
-firstEvents = event.PowerOn paper ∷ event.Observe sampled ∷ []
+abbrev pub powered : List Event
+powered = day paper []
+
+abbrev pub paperDay : List Event
+paperDay = day paper (sampled ∷ [])
 
 -- in precharge, cool
-abbrev pub cool : Run
-cool = on ▸ Observe (heldSample (seen 1000 5000 70000))
+abbrev pub coolDay : List Event
+coolDay = day paper (sample 1000 5000 0 70000 0 ∷ [])
 
--- a second in fast charge, which is its limit, in two samples
-abbrev pub second : Run
-second =
-    powered (heldProfile (limited 1)) ▸ Observe (heldSample (seen 0 7600 55000)) ▸ Observe (heldSample (seen 500 7600 55000)) ▸ Observe (heldSample sampled)
+-- a VBAT of each stage, and a limit for one stage alone
+abbrev pub levelOf : Stage → ℕ
+levelOf trickle = 3000
+levelOf precharge = 5000
+levelOf fast = 7600
 
-abbrev pub secondEvents : List Event
-secondEvents = event.PowerOn (limited 1) ∷ event.Observe (seen 0 7600 55000) ∷ event.Observe (seen 500 7600 55000) ∷ event.Observe sampled ∷ []
+abbrev pub limitFor : Stage → ℕ → SpelledProfile
+limitFor trickle seconds = limits seconds 7200 36000
+limitFor precharge seconds = limits 3600 seconds 36000
+limitFor fast seconds = limits 3600 7200 seconds
 
--- with no limit for fast charge
-abbrev pub unlimited : Run
-unlimited = powered (heldProfile (limited 0)) ▸ Observe (heldSample sampled)
+-- a second in a stage, which is its limit, in two samples; and the same with no limit for it
+abbrev pub secondIn : Stage → List Event
+secondIn s = day (limitFor s 1) (seen 0 (levelOf s) ∷ seen 500 (levelOf s) ∷ seen 1000 (levelOf s) ∷ [])
 
-abbrev pub unlimitedEvents : List Event
-unlimitedEvents = event.PowerOn (limited 0) ∷ event.Observe sampled ∷ []
+abbrev pub unlimitedIn : Stage → List Event
+unlimitedIn s = day (limitFor s 0) (seen 1000 (levelOf s) ∷ [])
 
--- a number of a model's state
+-- trickle for its 30 s, and then fast, which has no limit
+abbrev pub trickleDay : List Event
+trickleDay = day (limits 30 40 0) (seen 1000 3000 ∷ seen 31000 7600 ∷ [])
+
+-- fast for its 20 s, at the end of which IINDPM begins
+abbrev pub regulatedDay : List Event
+regulatedDay = day (limits 30 40 20) (seen 1000 7600 ∷ sample 21000 7600 0 55000 4 ∷ [])
+
+-- fast, taper and done, which takes 2 s of the 20; a restart, and 18 s of fast
+abbrev pub restartDay : List Event
+restartDay =
+    day (limits 30 40 20)
+    (sample 1000 7600 500 55000 0 ∷ sample 2000 8395 500 55000 0 ∷ sample 3000 8395 50 55000 0 ∷ sample 4000 8000 500 55000 0 ∷ sample 22000 8000 500 55000 0 ∷ [])
+
+-- a number of a model's state, and of the one that an event leaves
 abbrev pub held : (State → ℕ) → Model → ℕ
 held f Off = 0
 held f (On s) = f s
+
+abbrev pub of : (State → ℕ) → Outcome → ℕ
+of f o = held f (o .model)
+
+-- a stage's time
+abbrev pub timeOf : Stage → Cycle → ℕ
+timeOf trickle y = y .trickle
+timeOf precharge y = y .precharge
+timeOf fast y = y .fast
 
 -- two numbers that differ
 pub differ : (a b : ℕ) → eqb a b ≡ false → a ≡ b → ⊥

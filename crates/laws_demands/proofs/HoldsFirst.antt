@@ -9,17 +9,21 @@ use lib.Seq.{drop-append-seam}
 use lib.Dec.{leb}
 use borrow.Author.Tests.{leb-true}
 use Rattle.base.specs.Pick.{pick}
-use Rattle.base.specs.Found.{refused}
 use Rattle.base.specs.Writing.{wrote, put, written}
 use Rattle.base.specs.Writing as answer
-use Rattle.log_event.specs.Items.{number}
 use Rattle.log_record.specs.Records.{spellEvent}
 use Rattle.step_event.proofs.Keeps.{refused-leaves}
 use Rattle.laws_step.proofs.Given.{number-known}
 use Rattle.laws_demands.specs.First.{WrittenIn}
 use Rattle.laws_demands.specs.First as told
 use Rattle.laws_demands.specs.Ours.{FirstHolds}
-use Rattle.laws_demands.proofs.Reading.{reads}
+use Rattle.report_state.specs.Report.{reportOf}
+use Rattle.step_event.specs.Steps.{stepOf}
+use Rattle.laws_format.specs.Ours.{ourRead}
+use Rattle.laws_format.proofs.Keeping.{our-reads}
+use Rattle.laws_demands.specs.Ours.{ourWalk}
+use Rattle.laws_demands.proofs.Answers.{reads-answer, walked}
+use Rattle.laws_demands.proofs.Prints.{our-walks}
 
 puts : (bytes buffer : List ℕ) → WrittenIn buffer (written bytes buffer, put bytes buffer)
 unfolding written put
@@ -34,6 +38,7 @@ puts bytes buffer = by (leb (length bytes) (length buffer)) refl
 pub first-holds : FirstHolds
 first-holds = record {
   steps = λ m e. record { number = number-known m e; refused = refused-leaves m e };
-  reads = reads;
+  reads = λ bytes are at. reads-answer ourRead our-reads bytes are at;
   writes = λ e buffer. puts (spellEvent e) buffer;
+  walks = λ bytes are. walked stepOf reportOf ourRead ourWalk our-walks our-reads bytes are;
 }

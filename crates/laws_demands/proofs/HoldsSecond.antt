@@ -1,16 +1,20 @@
 -- Demand 2 holds of this product.
+use mathlib.Core.Path.{refl}
 use Rattle.laws_step.proofs.Given.{each-given}
 use Rattle.laws_account.proofs.Agreeing.{outcome-is-step}
+use Rattle.laws_account.proofs.Looking.{stat-is-model, register-is-model}
+use Rattle.laws_format.proofs.Keeping.{our-reads, our-writes}
 use Rattle.laws_demands.specs.Ours.{SecondHolds}
-use Rattle.laws_demands.proofs.Prints.{prints}
+use Rattle.laws_demands.proofs.Prints.{our-walks}
 use Rattle.laws_demands.proofs.Reports.{reports-are}
-use Rattle.laws_demands.proofs.Spells.{spells}
 
 pub second-holds : SecondHolds
 second-holds = record {
-  refuses = each-given;
-  moves = outcome-is-step;
-  reports = λ r accepted. reports-are r;
-  prints = λ bytes are short. prints bytes short;
-  spells = spells;
+  moves = record { refuses = each-given; moves = outcome-is-step; passes = λ m ok e. refl };
+  reports = record { reports = λ r accepted. reports-are r; shows = λ s. refl };
+  stats = record { stats = λ r accepted. stat-is-model r; shows = λ s. refl };
+  registers = record { reads = register-is-model; shows = λ m address. refl };
+  reads = our-reads;
+  writes = our-writes;
+  walks = our-walks;
 }

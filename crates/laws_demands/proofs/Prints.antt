@@ -5,28 +5,41 @@ use mathlib.Core.List.{List, [], _∷_}
 use native.Mathlib.Omega.{arith}
 use native.Mathlib.Nat.{zero-add}
 use lib.ListN.{length}
+use borrow.Author.Tests.{lt-ltb, le-ltb}
 use Rattle.base.specs.Pick.{bitOf}
 use Rattle.state_parts.specs.declared.state.Model.{Model}
 use Rattle.state_parts.specs.declared.state.Model.the-variants.{Off, On}
 use Rattle.log_event.specs.Events.{kindOf}
 use Rattle.log_event.specs.Kinds.{kindByte, kinds}
 use Rattle.log_event.specs.declared.Event.{Event}
+use Rattle.log_event.specs.declared.Event.the-variants.{PowerOn, Set, Write, TakeFlags, Observe, Service, Reset}
 use Rattle.log_record.specs.Records.{Met, met, refused, end, recordAt}
 use Rattle.report_state.specs.Lines.{lineOf}
 use Rattle.report_state.specs.Report.{reportOf}
 use Rattle.step_event.specs.Steps.{stepOf}
 use Rattle.step_event.specs.Walks.{numberAfter, metBy, metOf, afterRead, walkOf, startWalk}
-use Rattle.step_event.specs.Pages.{Passed, passedBy, pageOf, wholeOf, endBy}
+use Rattle.step_event.specs.Pages.{Passed, passedBy, pageOf, wholeOf, endBy, endOf}
 use Rattle.step_event.specs.declared.walking.Walk.{Walk}
 use Rattle.step_kinds.specs.Answers.{Outcome}
-use Rattle.laws_demands.specs.Printed.{lineBy, linesBy, Log, readOn, logFrom, printedBy}
-use Rattle.laws_demands.specs.Ours.{ourRun, ourRead}
+use Rattle.laws_format.specs.Ours.{ourRead}
+use Rattle.laws_demands.specs.Printed.{kindNumber, lineBy, linesBy, Log, readOn, logFrom, printedBy}
+use Rattle.laws_demands.specs.Second.{Walks}
+use Rattle.laws_demands.specs.Ours.{ourWalk}
+
+kind-is : (e : Event) → kindByte (kindOf e) ≡ kindNumber e
+kind-is (PowerOn p) = refl
+kind-is (Set number value) = refl
+kind-is (Write address byte) = refl
+kind-is TakeFlags = refl
+kind-is (Observe x) = refl
+kind-is Service = refl
+kind-is Reset = refl
 
 line-is : (number : ℕ) (e : Event) (o : Outcome) → lineOf number (kindByte (kindOf e)) (o .number) (bitOf (o .pulse)) (o .model) ≡ lineBy reportOf number e o
 unfolding lineOf lineBy
-line-is number e o = by (o .model)
+line-is number e o = ap (λ (kind : ℕ). lineOf number kind (o .number) (bitOf (o .pulse)) (o .model)) (kind-is e) ∙ by (o .model)
   where
-    by : (m : Model) → lineOf number (kindByte (kindOf e)) (o .number) (bitOf (o .pulse)) m ≡ lineBy reportOf number e (record { number = o .number; place = o .place; model = m; pulse = o .pulse; handed = o .handed })
+    by : (m : Model) → lineOf number (kindNumber e) (o .number) (bitOf (o .pulse)) m ≡ lineBy reportOf number e (record { number = o .number; place = o .place; model = m; pulse = o .pulse; handed = o .handed })
     by Off = refl
     by (On s) = refl
 
@@ -75,9 +88,15 @@ unfolding pageOf logFrom walkOf
 pages zero bytes w h = no-page bytes w h
 pages (suc most) bytes w h = one-more most bytes w (λ v. pages most bytes v) (recordAt kinds bytes (w .place)) h
 
-pub prints : (bytes : List ℕ) → length bytes ≤ 65536 → ourRun bytes ≡ printedBy stepOf reportOf ourRead bytes
+whole : (bytes : List ℕ) → length bytes ≤ 65536 → record { lines = wholeOf bytes .lines; last = endOf bytes } ≡ printedBy stepOf reportOf ourRead bytes
 unfolding wholeOf printedBy startWalk
-prints bytes h =
+whole bytes h =
     let k = pages (suc (length bytes)) bytes startWalk (omega arith) in
     let last = rw zero-add at (k .last) in
     λ i. record { lines = k .lines i; last = last i }
+
+pub our-walks : Walks stepOf reportOf ourRead ourWalk
+our-walks = record {
+  walks = λ bytes are short. rw (le-ltb 65536 (length bytes) short) (whole bytes short);
+  stops = λ bytes long. rw (lt-ltb 65536 (length bytes) long);
+}

@@ -1,6 +1,6 @@
 -- Three wrong products break demand 1.
 use Prim.Native.Nat.{ℕ, _≤_}
-use mathlib.Core.Path.{_≡_, refl, ap}
+use mathlib.Core.Path.{_≡_, refl, ap, subst}
 use mathlib.Core.List.{List, [], _∷_}
 use native.Mathlib.Omega.{arith}
 use lib.ListN.{length, getD}
@@ -40,14 +40,15 @@ use Rattle.settle_all.specs.Settle.{settleOf, forcedOf, settledOf}
 use Rattle.step_flags.specs.Edges.{edgesOf, seenOf}
 use Rattle.step_flags.specs.Expiry.{expiredOf}
 use Rattle.step_kinds.specs.Finish.{finishOf}
-use Rattle.step_kinds.specs.Answers.{Outcome}
 use Rattle.step_kinds.specs.Plain.{setOf, writtenOf}
 use Rattle.step_turns.specs.Ranges.{profileInRange, sampleInRange}
 use Rattle.step_turns.specs.Turns.{heldProfile, turnOf}
 use Rattle.step_event.specs.Clock.{observedOf, countedOf, clearedIf, timesOf, unitsOf}
 use Rattle.step_event.specs.Steps.{stepOf, turnedBy, changeOf, firstOf, movedOf, followedOf, observeOf, seenOn}
 use Rattle.laws_account.proofs.Powering.{poweredOf}
-use Rattle.laws_demands.specs.First.{ReadAt, end, WrittenIn, no-room}
+use Rattle.laws_demands.specs.First.{Answered, ReadAt, end, WrittenIn, no-room}
+use Rattle.laws_format.specs.Readers.{Reader, Writer}
+use Rattle.laws_demands.specs.Product.{Step}
 use Rattle.laws_demands.specs.Refuted.{FirstRefuted}
 use Rattle.laws_demands.proofs.Days.{paper, held, differ, one-byte}
 use Rattle.laws_demands.specs.Wrong.{forgets, stopsAlways, spills}
@@ -63,8 +64,15 @@ stays buffer after n place no-room = refl
 pub first-refuted : FirstRefuted
 unfolding forgets stopsAlways spills stepOf written spellEvent settleOf startState firstOf stateOk movedOf spellItems forcedOf latchesOf bandOf settledOf testsOf startSettings profileOk settingsOk registersOk cycleOk watchdogOk sampleOk setOf observeOf faultOf baseOf shortOf lowOf packOverOf cycleOf phaseOf permittedOf suspendsOf belowRecharge taperOf chargeVoltageOf endingOf startVreg startIchg startVsysmin mayHold finishOf storeOf writeOf observedOf resetOf spell packClampOf inPack belowShare clearsOf endsOf judgedOf reachedOf cutOf regulatedOf heldOf shownOf rangeOf edgesOf merged pulseOf writtenTo countedOf expiredOf clearedIf timesOf unitsOf resetRegisters groups restartsOf settingNumbers fieldsAt ranges seenOf recounted withByte takenOf byteAt fields turnedBy changeOf followedOf writtenOf turnOf profileInRange sampleInRange seenOn
 first-refuted = record {
-  forgotten = λ read write d.
-      differ 0 1 refl (ap (held (λ s. 1)) (d .steps (On (poweredOf (heldProfile paper))) (Set 15 0) .refused (λ z. omega arith) .model));
-  stopped = λ step write d. let z = ends-late (4 ∷ []) (d .reads (4 ∷ []) one-byte 0) in absurd (omega arith);
-  spilt = λ step read d. differ 2 0 refl (ap (λ l. getD l 0 0) (stays (0 ∷ []) (2 ∷ []) 12 0 (d .writes (Set 1 1) (0 ∷ []))));
+  forgotten = λ p e d.
+      let s = On (poweredOf (heldProfile paper)) in
+      let same = subst (λ (step : Step). Answered s (step s (Set 15 0))) e (d .steps s (Set 15 0)) in
+      differ 0 1 refl (ap (held (λ s. 1)) (same .refused (λ z. omega arith) .model));
+  stopped = λ p e d.
+      let same = subst (λ (read : Reader). ReadAt (4 ∷ []) 0 (read (4 ∷ []) 0)) e (d .reads (4 ∷ []) one-byte 0) in
+      let z = ends-late (4 ∷ []) same in
+      absurd (omega arith);
+  spilt = λ p e d.
+      let same = subst (λ (write : Writer). WrittenIn (0 ∷ []) (write (Set 1 1) (0 ∷ []))) e (d .writes (Set 1 1) (0 ∷ [])) in
+      differ 2 0 refl (ap (λ l. getD l 0 0) (stays (0 ∷ []) (2 ∷ []) 12 0 same));
 }

@@ -1,32 +1,16 @@
--- Each wrong product and each slip breaks demand 2: a history, a run or a log at which it and the account come to different numbers.
-use Prim.Native.Nat.{ℕ}
-use mathlib.Core.Path.{_≡_, refl, sym, ap, _∙_}
-use mathlib.Core.List.{List, [], _∷_, _++_}
+-- Each wrong product and each slip breaks demand 2: a list of events or a log at which it and this product come to different numbers.
+use Prim.Native.Nat.{ℕ, suc, _≤_}
+use mathlib.Core.Path.{_≡_, refl, sym, ap, subst, _∙_}
+use mathlib.Core.List.{List, [], _∷_}
 use native.Mathlib.Omega.{arith}
-use lib.ListN.{length, drop, getD, length-append}
-use Rattle.base.specs.Refusals.{refusalNumber}
-use Rattle.base.specs.Writing.{Wrote}
+use lib.ListN.{length, getD}
 use Rattle.base.specs.Units.{inPack, belowShare}
-use Rattle.state_parts.specs.Numbers.{phaseNumber, bandNumber}
-use Rattle.state_parts.specs.declared.state.State.{State}
 use Rattle.state_parts.specs.Edges.{merged, pulseOf, flagsNumber}
-use Rattle.log_number.specs.Number.{readNumber, readGroups}
-use Rattle.log_event.specs.Events.{kindOf, eventOf}
-use Rattle.log_event.specs.Kinds.{kindByte}
-use Rattle.log_event.specs.declared.Event.the-variants.{PowerOn, Write, Observe, Service, Reset}
-use Rattle.log_number.specs.Ibat.{signedOf}
-use Rattle.log_record.specs.Records.{Met, met, refused, end, recordAt, readRecord}
-use Rattle.log_record.specs.Items.{readItems}
-use Rattle.state_start.specs.Values.{startState, startSettings, startVsysmin, startVreg, startIchg}
-use Rattle.state_settings.specs.Kept.{settingsOk}
-use Rattle.state_settings.specs.Numbered.{storeOf, heldOf, settingNumbers}
-use Rattle.state_settings.specs.Ranges.{mayHold, rangeOf, ranges}
-use Rattle.state_valid.specs.Holds.{stateOk, profileOk, registersOk, cycleOk, watchdogOk, sampleOk}
-use Rattle.state_fields.specs.Rows.{shownOf, resetByte, takenOf, fieldsAt, fields}
-use Rattle.state_registers.specs.Reads.{byteAt}
-use Rattle.state_registers.specs.Resets.{resetOf, resetRegisters}
-use Rattle.state_registers.specs.Writes.{writeOf, writtenTo, recounted}
-use Rattle.state_fields.specs.Held.{withByte}
+use Rattle.report_state.specs.Report.{fastCurrent, reportOf, chargeClampOf, inputLimitOf}
+use Rattle.settle_all.specs.Gather.{testsOf}
+use Rattle.settle_all.specs.Settle.{settleOf, forcedOf, settledOf}
+use Rattle.settle_bands.specs.Effect.{shareOf, cutOf, suspendsOf}
+use Rattle.settle_bands.specs.Thresholds.{bandOf}
 use Rattle.settle_levels.specs.Clamps.{baseOf, packClampOf, faultOf}
 use Rattle.settle_levels.specs.Comparators.{latchesOf, shortOf, lowOf, packOverOf}
 use Rattle.settle_levels.specs.Voltage.{chargeVoltageOf, belowRecharge, taperOf}
@@ -34,98 +18,132 @@ use Rattle.settle_permission.specs.Bits.{regulatedOf}
 use Rattle.settle_permission.specs.Ending.{endingOf}
 use Rattle.settle_permission.specs.Limits.{reachedOf}
 use Rattle.settle_permission.specs.Permission.{permittedOf}
-use Rattle.settle_bands.specs.Effect.{shareOf, cutOf, suspendsOf}
-use Rattle.settle_bands.specs.Thresholds.{bandOf}
 use Rattle.settle_phases.specs.Cycles.{cycleOf}
 use Rattle.settle_phases.specs.Order.{phaseOf, clearsOf, endsOf, judgedOf, restartsOf}
-use Rattle.report_state.specs.declared.answer.Report.{Report}
-use Rattle.report_state.specs.Lines.{lineOf}
-use Rattle.report_state.specs.Report.{fastCurrent, reportOf, chargeClampOf, inputLimitOf}
-use Rattle.settle_all.specs.Gather.{testsOf}
-use Rattle.settle_all.specs.Settle.{settledOf, settleOf, forcedOf}
+use Rattle.state_fields.specs.Held.{withByte}
+use Rattle.state_fields.specs.Rows.{takenOf, fieldsAt, shownOf, fields}
+use Rattle.state_registers.specs.Reads.{byteAt}
+use Rattle.state_registers.specs.Resets.{resetOf, resetRegisters}
+use Rattle.state_registers.specs.Writes.{writeOf, writtenTo, recounted}
+use Rattle.state_settings.specs.Kept.{settingsOk}
+use Rattle.state_settings.specs.Numbered.{storeOf, heldOf, settingNumbers}
+use Rattle.state_settings.specs.Ranges.{mayHold, rangeOf, ranges}
+use Rattle.state_start.specs.Values.{startState, startSettings, startVsysmin, startVreg, startIchg}
+use Rattle.state_valid.specs.Holds.{sampleOk, stateOk, profileOk, registersOk, cycleOk, watchdogOk}
+use Rattle.step_event.specs.Clock.{observedOf, countedOf, clearedIf, timesOf, unitsOf}
+use Rattle.step_event.specs.Steps.{modelOk, stepOf, turnedBy, changeOf, firstOf, movedOf, followedOf, observeOf, seenOn}
 use Rattle.step_flags.specs.Edges.{edgesOf, seenOf}
 use Rattle.step_flags.specs.Expiry.{expiredOf}
-use Rattle.step_kinds.specs.Answers.{Outcome}
+use Rattle.step_kinds.specs.Finish.{finishOf}
 use Rattle.step_kinds.specs.Plain.{setOf, writtenOf}
 use Rattle.step_turns.specs.Ranges.{profileInRange, sampleInRange}
-use Rattle.step_turns.specs.Turns.{heldProfile, turnOf}
-use Rattle.step_kinds.specs.Finish.{finishOf}
+use Rattle.step_turns.specs.Turns.{turnOf, heldProfile, heldSample}
+use Rattle.laws_third.specs.Demand.{ranBy}
+use Rattle.base.specs.Refusals.{refusalNumber}
+use Rattle.base.specs.Writing.{Wrote}
+use Rattle.state_parts.specs.Numbers.{phaseNumber, bandNumber}
+use Rattle.state_parts.specs.With.{withSample}
+use Rattle.state_parts.specs.declared.state.State.{State}
+use Rattle.state_parts.specs.declared.state.Model.the-variants.{On}
+use Rattle.log_event.specs.declared.Event.the-variants.{PowerOn, Write, Observe, Service, Reset}
+use Rattle.log_number.specs.Number.{readNumber, readGroups}
+use Rattle.log_record.specs.Records.{recordAt, readRecord}
+use Rattle.log_record.specs.Items.{readItems}
+use Rattle.report_state.specs.Lines.{lineOf}
+use Rattle.step_event.specs.Pages.{pageOf, wholeOf}
+use Rattle.step_event.specs.Walks.{walkOf, startWalk, metBy}
+use Rattle.step_kinds.specs.Answers.{Outcome}
+use Rattle.laws_account.specs.Cycles.{Stage, trickle, precharge, fast}
+use Rattle.laws_account.proofs.Powering.{poweredOf}
 use Rattle.step_event.proofs.Numbered.{some-number}
-use Rattle.step_event.specs.Clock.{observedOf, timesOf, unitsOf, countedOf, clearedIf}
-use Rattle.step_event.specs.Pages.{wholeOf, pageOf}
-use Rattle.step_event.specs.Steps.{stepOf, turnedBy, changeOf, firstOf, movedOf, followedOf, observeOf, seenOn}
-use Rattle.step_event.specs.Walks.{startWalk, walkOf, metBy}
-use Rattle.laws_account.specs.History.{count, since, sumAfter}
-use Rattle.laws_account.specs.Refused.{Past, none, some, refusalOf, nextOf, refusalIn}
-use Rattle.laws_account.specs.Cycles.{phaseAt, phasesOf, phaseBy, timeIn, isDone, fault, wasDone, chargeEnds, starts, gave, limitReached, limitFound, restarts, unitsAfter, timeFound}
-use Rattle.laws_account.specs.Flagged.{pulsed, handedBack, flagged, edge, wasTaken}
-use Rattle.laws_account.specs.Held.{cellsOf, profileOf, sampleOf, overridden, byteOf, unserved, expired, elapsed, wasReset, wasServed, wasObserved}
-use Rattle.laws_account.specs.Judged.{chargeVoltage, chargeClamp, bandAt, baseAt, packClamp, inputOk, inputOver, short, low, packOver, permitted, suspended, rechargeDue, tapering, vbat, inputGood, ending}
-use Rattle.laws_account.specs.States.{outcomeOf, stateBy, settingsAt, registersAt, latchesAt, cycleAt, watchdogAt, flagsAt}
-use Rattle.laws_account.specs.Valued.{settingOf, pinFault, startValue}
-use Rattle.laws_demands.specs.Printed.{Printed, printedBy, logFrom, linesBy, lineBy}
-use Rattle.laws_demands.specs.Refuted.{WriteBreaks, SecondRefuted}
-use Rattle.laws_demands.specs.Wrong.{writesConstant, refusesAlways, reportsZeros, ignoresEvents, worksOnce, inventsTimes, inventsCounts}
-use Rattle.laws_demands.proofs.Days.{paper, seen, sampled, on, first, cool, held, differ, no-byte, one-byte}
-use Rattle.laws_account.specs.Reported.{reportAt, fastAt, limitAt, currentAt, voltageAt}
+use Rattle.log_number.specs.Promises.{Bytes}
+use Rattle.laws_format.specs.Ours.{ourRead}
+use Rattle.laws_format.specs.Readers.{Reads, Writes}
+use Rattle.laws_format.proofs.Examples.{paper-bytes}
+use Rattle.laws_format.proofs.Refutes.{format-refuted}
+use Rattle.laws_demands.specs.Product.{Step, Reporter, Walker, Printed, Product}
+use Rattle.laws_demands.specs.Printed.{Log, logFrom, printedBy}
+use Rattle.laws_demands.specs.Second.{Moves, Reports, SecondDemand}
+use Rattle.laws_demands.specs.Refuted.{StepBreaks, ReportBreaks, WalkBreaks, SecondRefuted}
+use Rattle.laws_demands.specs.Wrong.{refusesAlways, reportsZeros, ignoresEvents, worksOnce, inventsTimes, inventsCounts, writesConstant, dropsStray}
 use Rattle.laws_demands.specs.Slips.{sameWrite, scalesPrecharge, timesAfter, judgesCool, coolFirst}
+use Rattle.laws_demands.proofs.Days.{paper, sample, seen, sampled, powered, coolDay, paperDay, day, of, differ, no-byte, one-byte}
+use Rattle.laws_demands.proofs.Against.{as-ours, shown-as-ours}
+use Rattle.laws_demands.proofs.Only.{same-log}
 
-abbrev kindMet : Met → ℕ
-kindMet (met e next) = kindByte (kindOf e)
-kindMet (refused n place) = 0
-kindMet end = 0
+-- what breaks the part of demand 2 that a call is held to breaks it for every product with that call
+step-breaks : (step : Step) → ¬ Moves step → StepBreaks step
+step-breaks step breaks p e d = breaks (subst Moves e (d .moves))
 
-abbrev after : Wrote × List ℕ → List ℕ
-after w = w .1
+report-breaks : (report : Reporter) → ¬ Reports report → ReportBreaks report
+report-breaks report breaks p e d = breaks (subst Reports e (d .reports))
 
--- a constant writer: two events can't both have its bytes for their spelling
-constant-breaks : (bytes : List ℕ) → WriteBreaks (writesConstant bytes)
-unfolding writesConstant
-constant-breaks bytes step report run read d =
-    let a = d .spells Service tt in
-    let b = d .spells Reset tt in
-    let room = a .spelling ++ b .spelling in
-    let long = length-append (a .spelling) (b .spelling) in
-    let same = ap after (sym (a .written room (omega arith)) ∙ b .written room (omega arith)) in
-    let serviced = a .reads-back (drop (length (a .spelling)) room) in
-    let reset = b .reads-back (drop (length (b .spelling)) room) in
-    differ 6 7 refl (ap kindMet (sym serviced ∙ ap (λ l. read l 0) same ∙ reset))
+-- a state with a TS whose band isn't the one held: it may be held, and no run leaves it
+abbrev stray : State
+stray = withSample (poweredOf (heldProfile paper)) (heldSample (sample 0 0 0 80000 0))
 
--- what is looked at: the model, a number of its state, a report's current, how many records were read
-abbrev of : (State → ℕ) → Outcome → ℕ
-of f o = held f (o .model)
+-- a stage's time at the power-on, and after an observation with another stage's or its own before it
+invented : (s : Stage) (time : ℕ) → ¬ Moves (inventsTimes s time)
+unfolding inventsTimes stepOf reportOf fastCurrent chargeClampOf chargeVoltageOf inputLimitOf shareOf cutOf baseOf packClampOf inPack belowShare firstOf stateOk movedOf profileOk settingsOk registersOk cycleOk watchdogOk sampleOk setOf observeOf finishOf settledOf testsOf mayHold storeOf writeOf observedOf resetOf settleOf edgesOf merged pulseOf timesOf unitsOf bandOf cycleOf phaseOf permittedOf suspendsOf belowRecharge taperOf endingOf flagsNumber startState heldOf shownOf rangeOf writtenTo countedOf expiredOf clearedIf startSettings resetRegisters startVsysmin takenOf forcedOf latchesOf seenOf regulatedOf clearsOf endsOf judgedOf faultOf reachedOf settingNumbers fieldsAt ranges recounted withByte byteAt startVreg startIchg shortOf lowOf packOverOf restartsOf fields turnedBy changeOf followedOf writtenOf turnOf profileInRange sampleInRange seenOn ranBy
+invented trickle time d =
+    let y : time ≡ 0 = ap (of (λ s. s .cycle .trickle)) (as-ours _ d [] (PowerOn paper)) in
+    let z : time ≡ 2000 = ap (of (λ s. s .cycle .trickle)) (as-ours _ d (day paper (seen 1000 3000 ∷ [])) (Observe (seen 2000 3000))) in
+    omega (arith, y, z)
+invented precharge time d =
+    let y : time ≡ 0 = ap (of (λ s. s .cycle .precharge)) (as-ours _ d [] (PowerOn paper)) in
+    let z : time ≡ 2000 = ap (of (λ s. s .cycle .precharge)) (as-ours _ d (day paper (seen 1000 5000 ∷ [])) (Observe (seen 2000 5000))) in
+    omega (arith, y, z)
+invented fast time d =
+    let y : time ≡ 0 = ap (of (λ s. s .cycle .fast)) (as-ours _ d [] (PowerOn paper)) in
+    let z : time ≡ 2000 = ap (of (λ s. s .cycle .fast)) (as-ours _ d paperDay (Observe (seen 2000 7600))) in
+    omega (arith, y, z)
 
-abbrev current : Report → ℕ
-current q = q .current
-
+-- records read: none of no byte, one of a record's
 abbrev counted : Printed → ℕ
-counted p = getD (p .last) 0 0
+counted w = getD (w .last) 0 0
 
-abbrev start : Past
-start = some on
+read-count : (p : Product) → SecondDemand p → (bytes : List ℕ) → Bytes bytes → length bytes ≤ 65536
+    → counted (p .walk bytes) ≡ length (logFrom ourRead (suc (length bytes)) bytes 0 .events)
+unfolding printedBy
+read-count p d bytes are short =
+    ap counted (d .walks .walks bytes are short) ∙ ap (λ (l : Log). length (l .events)) (same-log (p .read) (d .reads) bytes are (suc (length bytes)) 0)
+
+counts-break : (count : ℕ) → WalkBreaks (inventsCounts count)
+unfolding inventsCounts wholeOf pageOf startWalk walkOf metBy lineOf logFrom recordAt readRecord readItems readNumber readGroups stepOf reportOf fastCurrent chargeClampOf chargeVoltageOf inputLimitOf shareOf cutOf baseOf packClampOf inPack belowShare firstOf stateOk movedOf profileOk settingsOk registersOk cycleOk watchdogOk sampleOk setOf observeOf finishOf settledOf testsOf mayHold storeOf writeOf observedOf resetOf settleOf edgesOf merged pulseOf timesOf unitsOf bandOf cycleOf phaseOf permittedOf suspendsOf belowRecharge taperOf endingOf flagsNumber startState heldOf shownOf rangeOf writtenTo countedOf expiredOf clearedIf startSettings resetRegisters startVsysmin takenOf forcedOf latchesOf seenOf regulatedOf clearsOf endsOf judgedOf faultOf reachedOf settingNumbers fieldsAt ranges recounted withByte byteAt startVreg startIchg shortOf lowOf packOverOf restartsOf fields turnedBy changeOf followedOf writtenOf turnOf profileInRange sampleInRange seenOn ranBy
+counts-break count p e d =
+    let y : count ≡ 0 = ap (λ (w : Walker). counted (w [])) (sym e) ∙ read-count p d [] no-byte (omega arith) in
+    let z : count ≡ 1 = ap (λ (w : Walker). counted (w (4 ∷ []))) (sym e) ∙ read-count p d (4 ∷ []) one-byte (omega arith) in
+    omega (arith, y, z)
+
+-- a constant writer: a service and a reset written into one byte
+abbrev left : Wrote × List ℕ → ℕ
+left w = getD (w .1) 0 0
+
+constant : (bytes : List ℕ) → ¬ Writes (writesConstant bytes)
+unfolding writesConstant
+constant bytes d =
+    differ 6 7 refl (ap left (sym (d .written Service (6 ∷ []) (paper-bytes .service) (0 ∷ []) (omega arith)) ∙ d .written Reset (7 ∷ []) (paper-bytes .reset) (0 ∷ []) (omega arith)))
 
 pub second-refuted : SecondRefuted
-unfolding outcomeOf stepOf reportAt currentAt voltageAt refusesAlways reportsZeros ignoresEvents worksOnce inventsTimes inventsCounts sameWrite scalesPrecharge timesAfter judgesCool printedBy refusalOf nextOf firstOf stateOk movedOf phaseAt settingOf fastAt chargeVoltage limitAt shareOf fastCurrent reportOf logFrom linesBy wholeOf stateBy profileOk settingsOk registersOk cycleOk watchdogOk sampleOk setOf observeOf phasesOf count chargeClamp bandAt baseAt inPack cellsOf profileOf chargeClampOf chargeVoltageOf inputLimitOf finishOf coolFirst settledOf testsOf lineBy pageOf startWalk settingsAt registersAt latchesAt cycleAt watchdogAt sampleOf flagsAt pulsed handedBack refusalIn mayHold storeOf writeOf observedOf resetOf phaseBy pinFault startValue overridden byteOf packClamp baseOf cutOf settleOf edgesOf merged pulseOf timesOf unitsOf bandOf cycleOf phaseOf permittedOf suspendsOf belowRecharge taperOf endingOf flagsNumber walkOf inputOk inputOver short low packOver timeIn isDone unserved flagged edge expired wasTaken elapsed startState heldOf shownOf rangeOf writtenTo countedOf expiredOf clearedIf startSettings resetRegisters permitted fault suspended wasDone rechargeDue chargeEnds tapering startVsysmin resetByte takenOf packClampOf forcedOf latchesOf seenOf regulatedOf clearsOf endsOf judgedOf faultOf reachedOf belowShare recordAt since vbat sumAfter starts gave wasReset wasServed inputGood limitReached settingNumbers fieldsAt ranges recounted withByte byteAt startVreg startIchg limitFound wasObserved ending shortOf lowOf packOverOf restartsOf readRecord restarts unitsAfter fields timeFound metBy lineOf readItems eventOf signedOf readNumber readGroups turnedBy changeOf followedOf writtenOf turnOf profileInRange sampleInRange seenOn
+unfolding modelOk refusesAlways reportsZeros ignoresEvents worksOnce sameWrite scalesPrecharge timesAfter judgesCool coolFirst dropsStray stepOf reportOf fastCurrent chargeClampOf chargeVoltageOf inputLimitOf shareOf cutOf baseOf packClampOf inPack belowShare firstOf stateOk movedOf profileOk settingsOk registersOk cycleOk watchdogOk sampleOk setOf observeOf finishOf settledOf testsOf mayHold storeOf writeOf observedOf resetOf settleOf edgesOf merged pulseOf timesOf unitsOf bandOf cycleOf phaseOf permittedOf suspendsOf belowRecharge taperOf endingOf flagsNumber startState heldOf shownOf rangeOf writtenTo countedOf expiredOf clearedIf startSettings resetRegisters startVsysmin takenOf forcedOf latchesOf seenOf regulatedOf clearsOf endsOf judgedOf faultOf reachedOf settingNumbers fieldsAt ranges recounted withByte byteAt startVreg startIchg shortOf lowOf packOverOf restartsOf fields turnedBy changeOf followedOf writtenOf turnOf profileInRange sampleInRange seenOn ranBy
 second-refuted = record {
-  refuses = λ r report run read write d.
-      let z : refusalNumber r ≡ 0 = ap (λ (o : Outcome). o .number) (d .moves none tt (PowerOn paper)) in
-      absurd (omega (arith, some-number r));
-  zeros = λ step run read write d. differ 0 1500 refl (ap current (d .reports first (refl, (refl, refl))));
-  ignores = λ report run read write d. differ 0 1 refl (ap (of (λ s. 1)) (d .moves none tt (PowerOn paper)));
-  once = λ report run read write d. differ 0 3 refl (ap (of (λ s. phaseNumber (s .phase))) (d .moves start refl (Observe sampled)));
-  times = λ time report run read write d.
-      let fast : Outcome → ℕ = of (λ s. s .cycle .fast) in
-      let y : time ≡ 0 = ap fast (d .moves none tt (PowerOn paper)) in
-      let z : time ≡ 2000 = ap fast (d .moves (some first) (refl, (refl, refl)) (Observe (seen 2000 7600 55000))) in
-      absurd (omega arith);
-  counts = λ count step report write d.
-      let y : count ≡ 0 = ap counted (d .prints [] no-byte (omega arith)) in
-      let z : count ≡ 1 = ap counted (d .prints (4 ∷ []) one-byte (omega arith)) in
-      absurd (omega arith);
-  constant = constant-breaks;
-  written = λ report run read write d. differ 3 2 refl (ap (of (λ s. s .registers .cells)) (d .moves start refl (Write 0x1B 0x43)));
-  scaled = λ step run read write d. differ 24 120 refl (ap current (d .reports cool (refl, (refl, refl))));
-  timed = λ report run read write d. differ 2000 0 refl (ap (of (λ s. s .cycle .fast)) (d .moves start refl (Observe sampled)));
-  cooled = λ report run read write d.
-      differ 3 1 refl (ap (of (λ s. bandNumber (s .band))) (d .moves start refl (Observe (seen 1000 7600 80000))));
+  refuses = λ r. step-breaks _ (λ d.
+      let z : refusalNumber r ≡ 0 = ap (λ (o : Outcome). o .number) (as-ours _ d [] (PowerOn paper)) in
+      omega (arith, z, some-number r));
+  zeros = report-breaks _ (λ d. differ 0 1500 refl (shown-as-ours _ d paperDay));
+  ignores = step-breaks _ (λ d. differ 0 1 refl (ap (of (λ s. 1)) (as-ours _ d [] (PowerOn paper))));
+  once = step-breaks _ (λ d. differ 0 3 refl (ap (of (λ s. phaseNumber (s .phase))) (as-ours _ d powered (Observe sampled))));
+  times = λ s time. step-breaks _ (invented s time);
+  counts = counts-break;
+  constant = λ bytes p e d. constant bytes (subst Writes e (d .writes));
+  written = step-breaks _ (λ d. differ 3 2 refl (ap (of (λ s. s .registers .cells)) (as-ours _ d powered (Write 0x1B 0x43))));
+  scaled = report-breaks _ (λ d. differ 24 120 refl (shown-as-ours _ d coolDay));
+  timed = step-breaks _ (λ d. differ 2000 0 refl (ap (of (λ s. s .cycle .fast)) (as-ours _ d powered (Observe sampled))));
+  cooled = step-breaks _ (λ d. differ 3 1 refl (ap (of (λ s. bandNumber (s .band))) (as-ours _ d powered (Observe (sample 1000 7600 0 80000 0)))));
+  stray = step-breaks _ (λ d. differ 80000 55000 refl (ap (of (λ s. s .sample .ts)) (d .passes (On stray) refl (PowerOn paper))));
+  otherCode = λ p e d. format-refuted .otherCode (subst Reads e (d .reads));
+  otherCodeWritten = λ p e d. format-refuted .otherCodeWritten (subst Writes e (d .writes));
+  firstAlone = λ p e d. format-refuted .firstAlone (subst Reads e (d .reads));
+  oneForAll = λ p e d. format-refuted .oneForAll (subst Reads e (d .reads));
+  twoAndThree = λ p e d. format-refuted .twoAndThree (subst Reads e (d .reads));
 }

@@ -14,7 +14,7 @@ use Rattle.report_state.specs.Report.{trickleCurrent, currentIn, chargeClampOf,
 use Rattle.laws_account.specs.History.{Run}
 use Rattle.laws_account.specs.Held.{profileOf}
 use Rattle.laws_account.specs.Valued.{settingOf, enabled}
-use Rattle.laws_account.specs.Judged.{chargeClamp, bandAt, shareIn}
+use Rattle.laws_account.specs.Judged.{chargeClamp, bandAt}
 use Rattle.laws_account.specs.Cycles.{phaseAt}
 use Rattle.laws_account.proofs.Sharing.{share-is}
 use Rattle.laws_account.proofs.Judging.{voltage-is}

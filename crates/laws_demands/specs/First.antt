@@ -1,7 +1,7 @@
 -- Demand 1: "Every event and every byte string gets an answer, the calls ask nothing of their caller, and a refused event changes neither the model nor a lent buffer."
 use Prim.Native.Nat.{ℕ, _≤_, _<_}
 use mathlib.Core.Path.{_≡_}
-use mathlib.Core.List.{List}
+use mathlib.Core.List.{List, [], _∷_}
 use mathlib.Core.Logic.{_≢_, _⊎_}
 use lib.ListN.{length, drop}
 use Rattle.base.specs.Writing.{Wrote, wrote, refused}
@@ -13,18 +13,7 @@ use Rattle.log_record.specs.Records as log
 use Rattle.step_kinds.specs.Answers.{Outcome}
 use Rattle.step_event.specs.Theorems.{Untouched}
 use Rattle.laws_step.specs.Rows.{Among}
-
--- what a product's calls are, by what is told of their answers
-abbrev pub Step : Type 0
-Step = Model → Event → Outcome
-
--- a log and a place in it
-abbrev pub Reader : Type 0
-Reader = List ℕ → ℕ → Met
-
--- the bytes of a lent buffer; the answer, and the bytes after it
-abbrev pub Writer : Type 0
-Writer = Event → List ℕ → Wrote × List ℕ
+use Rattle.laws_demands.specs.Product.{Printed, Product}
 
 -- "Every event .. gets an answer": 0, or a number of the model's order. "a refused event changes [not] the model"
 pub record Answered (m : Model) (o : Outcome) : Type 0 where
@@ -42,8 +31,15 @@ pub data WrittenIn (buffer : List ℕ) : Wrote × List ℕ → Type 0 where
   written : (n : ℕ) (after : List ℕ) → n ≤ length buffer → length after ≡ length buffer → drop n after ≡ drop n buffer → WrittenIn buffer (wrote n, after)
   no-room : WrittenIn buffer (refused 12 0, buffer)
 
--- "the calls ask nothing of their caller": each is for every model, event, log, place and buffer
-pub record FirstDemand (step : Step) (read : Reader) (write : Writer) : Type 0 where
-  pub steps : (m : Model) (e : Event) → Answered m (step m e)
-  pub reads : (bytes : List ℕ) → Bytes bytes → (at : ℕ) → ReadAt bytes at (read bytes at)
-  pub writes : (e : Event) (buffer : List ℕ) → WrittenIn buffer (write e buffer)
+-- a whole log: read to its end or to a record of it that can't be read, with a line for each record before; or 13 and no line
+pub data Walked (bytes : List ℕ) (w : Printed) : Type 0 where
+  whole : w .last ≡ length (w .lines) ∷ 0 ∷ length bytes ∷ [] → Walked bytes w
+  stopped : (n at : ℕ) → Among n 1 4 → at < length bytes → w .last ≡ length (w .lines) ∷ n ∷ at ∷ [] → Walked bytes w
+  too-long : 65536 < length bytes → w ≡ record { lines = []; last = 0 ∷ 13 ∷ 0 ∷ [] } → Walked bytes w
+
+-- "the calls ask nothing of their caller": each is for every model, event, log, place and buffer, also a model that holds what it may not
+pub record FirstDemand (p : Product) : Type 0 where
+  pub steps : (m : Model) (e : Event) → Answered m (p .step m e)
+  pub reads : (bytes : List ℕ) → Bytes bytes → (at : ℕ) → ReadAt bytes at (p .read bytes at)
+  pub writes : (e : Event) (buffer : List ℕ) → WrittenIn buffer (p .write e buffer)
+  pub walks : (bytes : List ℕ) → Bytes bytes → Walked bytes (p .walk bytes)

@@ -1,12 +1,11 @@
 -- The definitions of the crate `laws_demands`.
+pub mod Product
 pub mod First
 pub mod Printed
 pub mod Second
-pub mod Crossed
-pub mod Stages
-pub mod Demand
-pub mod Laws
+pub mod Third
 pub mod Ours
+pub mod Only
 pub mod Wrong
 pub mod Slips
 pub mod Refuted

@@ -1,29 +1,39 @@
 -- This product, as the demands take it: the definitions that the promises of its public calls cite. And what is proved of it.
-use Rattle.base.specs.Writing.{put, written}
-use Rattle.log_event.specs.Kinds.{kinds}
-use Rattle.log_record.specs.Records.{spellEvent, recordAt}
+use lib.ListN.{length}
+use lib.Dec.{ltb}
+use Rattle.base.specs.Pick.{pick}
+use Rattle.state_registers.specs.Reads.{readRegisterOf}
 use Rattle.report_state.specs.Report.{reportOf}
+use Rattle.report_state.specs.Stats.{statOf}
 use Rattle.step_event.specs.Steps.{stepOf}
 use Rattle.step_event.specs.Pages.{wholeOf, endOf}
-use Rattle.laws_demands.specs.Demand.{ThirdDemand}
-use Rattle.laws_demands.specs.First.{Reader, Writer, FirstDemand}
-use Rattle.laws_demands.specs.Second.{Runner, SecondDemand}
+use Rattle.laws_format.specs.Ours.{ourRead, ourWrite}
+use Rattle.laws_demands.specs.Product.{Walker, Product}
+use Rattle.laws_demands.specs.Printed.{tooLong}
+use Rattle.laws_demands.specs.First.{FirstDemand}
+use Rattle.laws_demands.specs.Second.{SecondDemand}
+use Rattle.laws_demands.specs.Third.{ThirdDemand}
 
-abbrev pub ourRun : Runner
-ourRun bytes = record { lines = wholeOf bytes .lines; last = endOf bytes }
+abbrev pub ourWalk : Walker
+ourWalk bytes = pick (ltb 65536 (length bytes)) tooLong (record { lines = wholeOf bytes .lines; last = endOf bytes })
 
-abbrev pub ourRead : Reader
-ourRead = recordAt kinds
-
-abbrev pub ourWrite : Writer
-ourWrite e buffer = (written (spellEvent e) buffer, put (spellEvent e) buffer)
+abbrev pub ours : Product
+ours = record {
+  step = stepOf;
+  report = reportOf;
+  stat = statOf;
+  register = readRegisterOf;
+  read = ourRead;
+  write = ourWrite;
+  walk = ourWalk;
+}
 
 -- the three demands hold
 abbrev pub FirstHolds : Type 0
-FirstHolds = FirstDemand stepOf ourRead ourWrite
+FirstHolds = FirstDemand ours
 
 abbrev pub SecondHolds : Type 0
-SecondHolds = SecondDemand stepOf reportOf ourRun ourRead ourWrite
+SecondHolds = SecondDemand ours
 
 abbrev pub ThirdHolds : Type 0
-ThirdHolds = ThirdDemand stepOf reportOf
+ThirdHolds = ThirdDemand ours

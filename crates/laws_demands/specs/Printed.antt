@@ -1,4 +1,4 @@
--- What is printed of a log, of any step, report and reader: "each record gives: number, kind, answer (0 or refusal), phase, current, voltage, input limit, pulse, flags" and
+-- What is printed of a log, in numbers, by any step, report and reader: "each record gives: number, kind, answer (0 or refusal), phase, current, voltage, input limit, pulse, flags" and
 -- "Last: `end`, records read, code (0 or 1-4), offset of the log's end or the unreadable record."
 use Prim.Native.Nat.{ℕ, zero, suc}
 use mathlib.Core.List.{List, [], _∷_}
@@ -8,20 +8,16 @@ use Rattle.base.specs.Volts.{packOf, millivoltsOf}
 use Rattle.state_parts.specs.Edges.{noFlags}
 use Rattle.state_parts.specs.Numbers.{phaseNumber}
 use Rattle.state_parts.specs.declared.phase.Phase.the-variants.{Idle}
-use Rattle.state_parts.specs.declared.state.State.{State}
 use Rattle.state_parts.specs.declared.state.Model.{Model}
 use Rattle.state_parts.specs.declared.state.Model.the-variants.{Off, On}
-use Rattle.log_event.specs.Events.{kindOf}
-use Rattle.log_event.specs.Kinds.{kindByte}
 use Rattle.log_event.specs.declared.Event.{Event}
+use Rattle.log_event.specs.declared.Event.the-variants.{PowerOn, Set, Write, TakeFlags, Observe, Service, Reset}
 use Rattle.log_record.specs.Records.{Met, met, refused, end}
 use Rattle.step_kinds.specs.Answers.{Outcome}
 use Rattle.report_state.specs.declared.answer.Report.{Report}
 use Rattle.report_state.specs.declared.line.Line.{Line}
-use Rattle.laws_demands.specs.First.{Step, Reader}
-
-abbrev pub Reporter : Type 0
-Reporter = State → Report
+use Rattle.laws_format.specs.Readers.{Reader}
+use Rattle.laws_demands.specs.Product.{Step, Reporter, Printed}
 
 -- "all else is the state held, zeros before power-on"
 abbrev pub reportIn : Reporter → Model → Report
@@ -32,13 +28,23 @@ abbrev pub flagsIn : Model → ℕ
 flagsIn Off = noFlags
 flagsIn (On s) = s .flags
 
+-- "kind": 1 power-on, 2 set, 3 write, 4 take flags, 5 observe, 6 service watchdog, 7 register reset
+abbrev pub kindNumber : Event → ℕ
+kindNumber (PowerOn p) = 1
+kindNumber (Set number value) = 2
+kindNumber (Write address byte) = 3
+kindNumber TakeFlags = 4
+kindNumber (Observe x) = 5
+kindNumber Service = 6
+kindNumber Reset = 7
+
 -- "Report and flags are those after the record"
 unfoldable pub lineBy : Reporter → ℕ → Event → Outcome → Line
 lineBy report number e o =
     let r = reportIn report (o .model) in
     record {
       number = number;
-      kind = kindByte (kindOf e);
+      kind = kindNumber e;
       answer = o .number;
       phase = phaseNumber (r .phase);
       current = r .current;
@@ -69,12 +75,12 @@ unfoldable pub logFrom : Reader → ℕ → List ℕ → ℕ → Log
 logFrom read zero bytes at = record { events = []; code = 0; offset = at }
 logFrom read (suc most) bytes at = readOn at (read bytes at) (λ next. logFrom read most bytes next)
 
-pub record Printed : Type 0 where
-  pub lines : List Line
-  pub last : List ℕ
-
 -- a whole log, on a model that is off: it has no more records than bytes
 unfoldable pub printedBy : Step → Reporter → Reader → List ℕ → Printed
 printedBy step report read bytes =
     let log = logFrom read (suc (length bytes)) bytes 0 in
     record { lines = linesBy step report Off 0 (log .events); last = length (log .events) ∷ log .code ∷ log .offset ∷ [] }
+
+-- 13: "program input above 65,536 bytes": "it prints only `end 0 13 0`"
+abbrev pub tooLong : Printed
+tooLong = record { lines = []; last = 0 ∷ 13 ∷ 0 ∷ [] }

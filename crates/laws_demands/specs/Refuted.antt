@@ -1,34 +1,40 @@
 -- 01, "What the contracts owe": which demand each wrong product breaks, whatever the rest of it is like.
 use Prim.Native.Nat.{ℕ}
+use mathlib.Core.Path.{_≡_}
 use mathlib.Core.List.{List}
 use Rattle.base.specs.declared.refusal.Refusal.{Refusal}
 use Rattle.report_state.specs.Report.{reportOf}
-use Rattle.laws_demands.specs.Demand.{ThirdDemand}
-use Rattle.laws_demands.specs.First.{Step, Reader, Writer, FirstDemand}
-use Rattle.laws_demands.specs.Printed.{Reporter}
-use Rattle.laws_demands.specs.Second.{Runner, SecondDemand}
-use Rattle.laws_demands.specs.Ours.{ourRead}
-use Rattle.laws_demands.specs.Wrong.{forgets, stopsAlways, spills, refusesAlways, reportsZeros, ignoresEvents, worksOnce, inventsTimes, inventsCounts, writesConstant}
-use Rattle.laws_demands.specs.Slips.{sameWrite, scalesPrecharge, timesAfter, judgesCool}
+use Rattle.laws_account.specs.Cycles.{Stage}
+use Rattle.laws_format.specs.Readers.{Reader, Writer}
+use Rattle.laws_format.specs.Wrong.{readsSwapped, writesSwapped, readsFirst, refusesWithOne, swapsTwoAndThree}
+use Rattle.laws_third.specs.Demand.{ThirdOfLists}
+use Rattle.laws_demands.specs.Product.{Step, Reporter, Walker, Product}
+use Rattle.laws_demands.specs.First.{FirstDemand}
+use Rattle.laws_demands.specs.Second.{SecondDemand}
+use Rattle.laws_demands.specs.Wrong.{forgets, stopsAlways, spills, refusesAlways, reportsZeros, ignoresEvents, worksOnce, inventsTimes, inventsCounts, writesConstant, dropsStray, powersOnce}
+use Rattle.laws_demands.specs.Slips.{sameWrite, scalesPrecharge, timesAfter, judgesCool, halvesByNew, keepsTimes}
 
 -- demand 1: "a refused event changes neither the model nor a lent buffer", "every byte string gets an answer"
 pub record FirstRefuted : Type 0 where
-  pub forgotten : (read : Reader) (write : Writer) → ¬ FirstDemand forgets read write
-  pub stopped : (step : Step) (write : Writer) → ¬ FirstDemand step stopsAlways write
-  pub spilt : (step : Step) (read : Reader) → ¬ FirstDemand step read spills
+  pub forgotten : (p : Product) → p .step ≡ forgets → ¬ FirstDemand p
+  pub stopped : (p : Product) → p .read ≡ stopsAlways → ¬ FirstDemand p
+  pub spilt : (p : Product) → p .write ≡ spills → ¬ FirstDemand p
 
--- demand 2, of a step, a report, a run or a writer
+-- demand 2, of every product with this step, report, walk, reader or writer
 abbrev pub StepBreaks : Step → Type 0
-StepBreaks step = (report : Reporter) (run : Runner) (read : Reader) (write : Writer) → ¬ SecondDemand step report run read write
+StepBreaks step = (p : Product) → p .step ≡ step → ¬ SecondDemand p
 
 abbrev pub ReportBreaks : Reporter → Type 0
-ReportBreaks report = (step : Step) (run : Runner) (read : Reader) (write : Writer) → ¬ SecondDemand step report run read write
+ReportBreaks report = (p : Product) → p .report ≡ report → ¬ SecondDemand p
 
-abbrev pub RunBreaks : Runner → Type 0
-RunBreaks run = (step : Step) (report : Reporter) (write : Writer) → ¬ SecondDemand step report run ourRead write
+abbrev pub WalkBreaks : Walker → Type 0
+WalkBreaks walk = (p : Product) → p .walk ≡ walk → ¬ SecondDemand p
+
+abbrev pub ReadBreaks : Reader → Type 0
+ReadBreaks read = (p : Product) → p .read ≡ read → ¬ SecondDemand p
 
 abbrev pub WriteBreaks : Writer → Type 0
-WriteBreaks write = (step : Step) (report : Reporter) (run : Runner) (read : Reader) → ¬ SecondDemand step report run read write
+WriteBreaks write = (p : Product) → p .write ≡ write → ¬ SecondDemand p
 
 pub record SecondRefuted : Type 0 where
   -- "A model that refuses always, reports zeros always or ignores events breaks demand 2;"
@@ -38,8 +44,8 @@ pub record SecondRefuted : Type 0 where
   -- "one that works only on the first event breaks 2 and 3 over runs;"
   pub once : StepBreaks worksOnce
   -- "invented stage times or record counts break 3's sums and 2's definition of a run."
-  pub times : (time : ℕ) → StepBreaks (inventsTimes time)
-  pub counts : (count : ℕ) → RunBreaks (inventsCounts count)
+  pub times : (stage : Stage) (time : ℕ) → StepBreaks (inventsTimes stage time)
+  pub counts : (count : ℕ) → WalkBreaks (inventsCounts count)
   -- "A constant log writer breaks 2's reading back."
   pub constant : (bytes : List ℕ) → WriteBreaks (writesConstant bytes)
   -- "Slips to exclude": "Using a CELL_PIN override from the same write; scaling precharge by ICHG's band share; charging time to the phase after the sample; judging cool before cold."
@@ -47,15 +53,30 @@ pub record SecondRefuted : Type 0 where
   pub scaled : ReportBreaks scalesPrecharge
   pub timed : StepBreaks timesAfter
   pub cooled : StepBreaks judgesCool
+  -- right after every run, and wrong on a model that passes but that no run leaves
+  pub stray : StepBreaks dropsStray
+  -- another byte code; a record read at place 0 alone; one number for whatever can't be read, and two that are swapped
+  pub otherCode : ReadBreaks readsSwapped
+  pub otherCodeWritten : WriteBreaks writesSwapped
+  pub firstAlone : ReadBreaks readsFirst
+  pub oneForAll : ReadBreaks refusesWithOne
+  pub twoAndThree : ReadBreaks swapsTwoAndThree
 
--- demand 3, of a step, whatever is reported of its states: "one that works only on the first event breaks 2 and 3 over runs; invented stage times .. break 3's sums". Those that
--- refuse, report zeros or ignore events break it too.
+-- demand 3, of a step, whatever is reported of its states
 abbrev pub StepBreaksThird : Step → Type 0
-StepBreaksThird step = (report : Reporter) → ¬ ThirdDemand step report
+StepBreaksThird step = (report : Reporter) → ¬ ThirdOfLists step report
 
 pub record ThirdRefuted : Type 0 where
+  -- "one that works only on the first event breaks 2 and 3 over runs"; those that refuse, report zeros or ignore events break it too
   pub refuses : (r : Refusal) → StepBreaksThird (refusesAlways r)
-  pub zeros : (step : Step) → ¬ ThirdDemand step reportsZeros
+  pub zeros : (step : Step) → ¬ ThirdOfLists step reportsZeros
   pub ignores : StepBreaksThird ignoresEvents
   pub once : StepBreaksThird worksOnce
-  pub times : (time : ℕ) → ¬ ThirdDemand (inventsTimes time) reportOf
+  -- a second power-on refused: "since the latest power-on"
+  pub power : StepBreaksThird powersOnce
+  -- "invented stage times .. break 3's sums", each stage's; with this product's report
+  pub times : (stage : Stage) (time : ℕ) → ¬ ThirdOfLists (inventsTimes stage time) reportOf
+  -- and so do times that are added wrongly
+  pub after : ¬ ThirdOfLists timesAfter reportOf
+  pub halved : ¬ ThirdOfLists halvesByNew reportOf
+  pub uncleared : ¬ ThirdOfLists keepsTimes reportOf

@@ -1,47 +1,66 @@
 -- Demand 2: "Each accepted event moves the model as document 01 says, after the maker's data sheet; each event has one log spelling, read back as the same event, and every
 -- accepted spelling is written again byte for byte where room allows."
-use Prim.Native.Nat.{ℕ, _+_, _≤_, _<_}
+use Prim.Native.Nat.{ℕ, _≤_, _<_}
 use mathlib.Core.Path.{_≡_}
-use mathlib.Core.List.{List, _++_}
+use mathlib.Core.Bool.{true}
+use mathlib.Core.List.{List}
 use mathlib.Core.Logic.{_↔_}
-use lib.ListN.{length, drop}
-use Rattle.base.specs.Writing.{wrote, refused}
+use lib.ListN.{length}
+use Rattle.base.specs.Told.{Told}
+use Rattle.state_parts.specs.declared.state.State.{State}
 use Rattle.state_parts.specs.declared.state.Model.{Model}
+use Rattle.state_registers.specs.Reads.{readRegisterOf}
 use Rattle.log_number.specs.Promises.{Bytes}
 use Rattle.log_event.specs.declared.Event.{Event}
-use Rattle.log_record.specs.Promises.{Spellable}
-use Rattle.log_record.specs.Records.{met}
+use Rattle.report_state.specs.declared.answer.Stat.{Stat}
+use Rattle.report_state.specs.Report.{reportOf}
+use Rattle.report_state.specs.Stats.{statOf}
+use Rattle.step_event.specs.Steps.{modelOk, stepOf}
 use Rattle.laws_step.specs.Rows.{Row}
 use Rattle.laws_account.specs.History.{Run}
 use Rattle.laws_account.specs.Refused.{Accepted, Past}
 use Rattle.laws_account.specs.States.{stateOf, modelOf, outcomeOf}
 use Rattle.laws_account.specs.Runs.{Lawful}
-use Rattle.laws_demands.specs.First.{Step, Reader, Writer}
-use Rattle.laws_demands.specs.Printed.{Reporter, Printed, printedBy}
 use Rattle.laws_account.specs.Reported.{reportAt}
+use Rattle.laws_account.specs.Looked.{statAt, registerAt}
+use Rattle.laws_format.specs.Readers.{Reader, Reads, Writes}
+use Rattle.laws_demands.specs.Product.{Step, Reporter, Walker, Product}
+use Rattle.laws_demands.specs.Printed.{printedBy, tooLong}
 
--- "each event has one log spelling, read back as the same event, and every accepted spelling is written again byte for byte where room allows"
-pub record OneSpelling (read : Reader) (write : Writer) (e : Event) : Type 0 where
-  pub spelling : List ℕ
-  -- whatever follows
-  pub reads-back : (rest : List ℕ) → read (spelling ++ rest) 0 ≡ met e (length spelling)
-  -- what reads as the event is just its spelling
-  pub only : (bytes : List ℕ) → Bytes bytes → (at next : ℕ) → read bytes at ≡ met e next → (next ≡ at + length spelling) × (drop at bytes ≡ spelling ++ drop next bytes)
-  -- "bytes after it stay"
-  pub written : (buffer : List ℕ) → length spelling ≤ length buffer → write e buffer ≡ (wrote (length spelling), spelling ++ drop (length spelling) buffer)
-  -- 12: "record longer than the room left in the lent buffer"
-  pub no-room : (buffer : List ℕ) → length buffer < length spelling → write e buffer ≡ (refused 12 0, buffer)
-
--- the lines of a log and its last line's numbers
-abbrev pub Runner : Type 0
-Runner = List ℕ → Printed
-
-pub record SecondDemand (step : Step) (report : Reporter) (run : Runner) (read : Reader) (write : Writer) : Type 0 where
-  -- "No | Given exactly when", of every model
+-- "Each accepted event moves the model as document 01 says"
+pub record Moves (step : Step) : Type 0 where
+  -- "No | Given exactly when", 5 to 11, of every model
   pub refuses : (n : ℕ) → 1 ≤ n → (m : Model) (e : Event) → (step m e .number ≡ n) ↔ Row n m e
-  -- "Each accepted event moves the model as document 01 says": after every history, what the account of it says
+  -- after every history of events what the account of it says
   pub moves : (h : Past) → Lawful h → (e : Event) → step (modelOf h) e ≡ outcomeOf h e
+  -- and what 01's definitions say of every model that holds what it may, also one that no history leaves
+  pub passes : (m : Model) → modelOk m ≡ true → (e : Event) → step m e ≡ stepOf m e
+
+-- the same of what is reported
+pub record Reports (report : Reporter) : Type 0 where
   pub reports : (r : Run) → Accepted r → report (stateOf r) ≡ reportAt r
-  -- a run of a log that isn't "above 65,536 bytes"
-  pub prints : (bytes : List ℕ) → Bytes bytes → length bytes ≤ 65536 → run bytes ≡ printedBy step report read bytes
-  pub spells : (e : Event) → Spellable e → OneSpelling read write e
+  pub shows : (s : State) → report s ≡ reportOf s
+
+-- of STAT
+pub record Stats (stat : State → Stat) : Type 0 where
+  pub stats : (r : Run) → Accepted r → stat (stateOf r) ≡ statAt r
+  pub shows : (s : State) → stat s ≡ statOf s
+
+-- and of a register that is read
+pub record Registers (register : Model → ℕ → Told ℕ) : Type 0 where
+  pub reads : (h : Past) → Lawful h → (address : ℕ) → register (modelOf h) address ≡ registerAt h address
+  pub shows : (m : Model) (address : ℕ) → register m address ≡ readRegisterOf m address
+
+-- a run of a log: what the step, the report and the reader make of it; 13 above 65,536 bytes
+pub record Walks (step : Step) (report : Reporter) (read : Reader) (walk : Walker) : Type 0 where
+  pub walks : (bytes : List ℕ) → Bytes bytes → length bytes ≤ 65536 → walk bytes ≡ printedBy step report read bytes
+  pub stops : (bytes : List ℕ) → 65536 < length bytes → walk bytes ≡ tooLong
+
+pub record SecondDemand (p : Product) : Type 0 where
+  pub moves : Moves (p .step)
+  pub reports : Reports (p .report)
+  pub stats : Stats (p .stat)
+  pub registers : Registers (p .register)
+  pub reads : Reads (p .read)
+  pub writes : Writes (p .write)
+  pub walks : Walks (p .step) (p .report) (p .read) (p .walk)

@@ -1,5 +1,5 @@
--- 01, "Slips to exclude": each slip as this product with the slip in it.
-use Prim.Native.Nat.{ℕ, _*_, _/_, _%_}
+-- 01, "Slips to exclude": each slip as this product with the slip in it; and two more of the same kind, in the sums of stage times.
+use Prim.Native.Nat.{ℕ, _*_, _/_}
 use mathlib.Core.Bool.{Bool, true, false, _&&_}
 use lib.Dec.{leb, eqb}
 use Rattle.base.specs.Pick.{pick}
@@ -16,6 +16,7 @@ use Rattle.state_parts.specs.declared.state.Model.{Model}
 use Rattle.state_parts.specs.declared.state.Model.the-variants.{Off, On}
 use Rattle.settle_bands.specs.Thresholds.{th2Of, tsOff, jeitaOn, bandOf}
 use Rattle.settle_bands.specs.Effect.{shareOf}
+use Rattle.state_parts.specs.Stages.{charging}
 use Rattle.settle_all.specs.Gather.{testsOf}
 use Rattle.settle_all.specs.Settle.{settledOf, settleOf}
 use Rattle.report_state.specs.Report.{trickleCurrent, currentIn, fastCurrent, reportOf}
@@ -30,8 +31,7 @@ use Rattle.step_kinds.specs.Finish.{finishOf}
 use Rattle.step_kinds.specs.declared.change.Way.the-variants.{Observes}
 use Rattle.step_event.specs.Clock.{unitsOf, timesOf, observedOf}
 use Rattle.step_event.specs.Steps.{stepOf}
-use Rattle.laws_demands.specs.First.{Step}
-use Rattle.laws_demands.specs.Printed.{Reporter}
+use Rattle.laws_demands.specs.Product.{Step, Reporter}
 use Rattle.laws_demands.specs.Wrong.{withModel}
 
 -- "Using a CELL_PIN override from the same write": it is as the written byte has it before the byte is taken
@@ -65,29 +65,54 @@ scalesPrecharge s = record {
   limit = reportOf s .limit;
 }
 
+-- an observation whose time is added otherwise: `counted` has the state with the new sample and the times that it comes to
+abbrev laterTimed : (State → Sample → State) → State → Later → Outcome → Outcome
+laterTimed counted s (Set number value) o = o
+laterTimed counted s (Write address byte) o = o
+laterTimed counted s TakeFlags o = o
+laterTimed counted s (Observe x) o = pick (eqb (o .number) 0) (finishOf (seenOf s) (counted s x) Observes) o
+laterTimed counted s Service o = o
+laterTimed counted s Reset o = o
+
+abbrev pub timedBy : (State → Sample → State) → State → Turn → Outcome → Outcome
+timedBy counted s (Opens p) o = o
+timedBy counted s (Follows later) o = laterTimed counted s later o
+timedBy counted s OpensOutside o = o
+timedBy counted s FollowsOutside o = o
+
+abbrev pub withClock : (State → Sample → State) → Step
+withClock counted Off e = stepOf Off e
+withClock counted (On s) e = timedBy counted s (turnOf e) (stepOf (On s) e)
+
 -- "charging time to the phase after the sample"
 abbrev pub chargedAfter : State → Sample → State
 chargedAfter s x =
     let observed = observedOf s x in
     withCycle observed (timesOf (s .profile) (settleOf observed true .phase) (unitsOf (s .sample) (elapsedOf (s .sample .stamp) (x .stamp))) (s .cycle))
 
-abbrev laterTimed : State → Later → Outcome → Outcome
-laterTimed s (Set number value) o = o
-laterTimed s (Write address byte) o = o
-laterTimed s TakeFlags o = o
-laterTimed s (Observe x) o = pick (eqb (o .number) 0) (finishOf (seenOf s) (chargedAfter s x) Observes) o
-laterTimed s Service o = o
-laterTimed s Reset o = o
-
-abbrev pub timedBy : State → Turn → Outcome → Outcome
-timedBy s (Opens p) o = o
-timedBy s (Follows later) o = laterTimed s later o
-timedBy s OpensOutside o = o
-timedBy s FollowsOutside o = o
-
 unfoldable pub timesAfter : Step
-timesAfter Off e = stepOf Off e
-timesAfter (On s) e = timedBy s (turnOf e) (stepOf (On s) e)
+timesAfter = withClock chargedAfter
+
+-- the half rate by the new sample
+abbrev pub ratedByNew : State → Sample → State
+ratedByNew s x = withCycle (observedOf s x) (timesOf (s .profile) (s .phase) (unitsOf x (elapsedOf (s .sample .stamp) (x .stamp))) (s .cycle))
+
+unfoldable pub halvesByNew : Step
+halvesByNew = withClock ratedByNew
+
+-- times that aren't cleared at a restart: where the cycle was done and charges again, they are those before
+abbrev pub timesOn : State → State → State
+timesOn s t =
+    pick (s .cycle .done && charging (t .phase))
+    (withCycle t (record { trickle = s .cycle .trickle; precharge = s .cycle .precharge; fast = s .cycle .fast; done = t .cycle .done })) t
+
+abbrev pub keptOn : State → Model → Model
+keptOn s Off = Off
+keptOn s (On t) = On (timesOn s t)
+
+unfoldable pub keepsTimes : Step
+keepsTimes Off e = stepOf Off e
+keepsTimes (On s) e = withModel (stepOf (On s) e) (keptOn s (stepOf (On s) e .model))
 
 -- "judging cool before cold": what an event leaves is judged again by that band
 unfoldable pub coolFirst : Profile → Registers → ℕ → Band

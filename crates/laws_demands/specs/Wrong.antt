@@ -1,7 +1,9 @@
--- Wrong products, each this product with one thing changed: three that break demand 1, and those that 01 names in "What the contracts owe".
+-- Wrong products, each this product with one thing changed: three that break demand 1, those that 01 names in "What the contracts owe", and those that are right only where an easier
+-- demand would look.
 use Prim.Native.Nat.{ℕ}
 use mathlib.Core.List.{List, [], _∷_, _++_}
 use lib.ListN.{length, take, drop}
+use mathlib.Core.Bool.{Bool, true, false}
 use lib.Dec.{eqb}
 use Rattle.base.specs.Pick.{pick}
 use Rattle.base.specs.Refusals.{refusalNumber}
@@ -16,10 +18,16 @@ use Rattle.state_parts.specs.declared.state.Model.the-variants.{Off, On}
 use Rattle.log_record.specs.Records.{spellEvent, end}
 use Rattle.step_kinds.specs.Answers.{Outcome, refusedWith}
 use Rattle.step_event.specs.Steps.{stepOf}
-use Rattle.laws_demands.specs.First.{Step, Reader, Writer}
-use Rattle.laws_demands.specs.Printed.{Reporter}
-use Rattle.laws_demands.specs.Second.{Runner}
-use Rattle.laws_demands.specs.Ours.{ourRun}
+use Rattle.state_parts.specs.declared.cycle.Cycle.{Cycle}
+use Rattle.step_turns.specs.Turns.{turnOf}
+use Rattle.step_turns.specs.declared.turn.Turn.{Turn}
+use Rattle.step_turns.specs.declared.turn.Turn.the-variants.{Opens, Follows, OpensOutside, FollowsOutside}
+use Rattle.settle_bands.specs.Thresholds.{bandOf}
+use Rattle.state_parts.specs.Numbers.{bandNumber}
+use Rattle.laws_account.specs.Cycles.{Stage, trickle, precharge, fast}
+use Rattle.laws_format.specs.Readers.{Reader, Writer}
+use Rattle.laws_demands.specs.Product.{Step, Reporter, Walker}
+use Rattle.laws_demands.specs.Ours.{ourWalk}
 
 -- an outcome with another model
 abbrev pub withModel : Outcome → Model → Outcome
@@ -54,22 +62,46 @@ unfoldable pub worksOnce : Step
 worksOnce Off e = stepOf Off e
 worksOnce (On s) e = withModel (stepOf (On s) e) (On s)
 
--- "invented stage times": the fast stage's is whatever number
-abbrev pub withTime : ℕ → Model → Model
-withTime time Off = Off
-withTime time (On s) = On (withCycle s (record { trickle = s .cycle .trickle; precharge = s .cycle .precharge; fast = time; done = s .cycle .done }))
+-- "invented stage times": a stage's is whatever number
+abbrev pub timed : Stage → ℕ → Cycle → Cycle
+timed trickle time y = record { trickle = time; precharge = y .precharge; fast = y .fast; done = y .done }
+timed precharge time y = record { trickle = y .trickle; precharge = time; fast = y .fast; done = y .done }
+timed fast time y = record { trickle = y .trickle; precharge = y .precharge; fast = time; done = y .done }
 
-unfoldable pub inventsTimes : ℕ → Step
-inventsTimes time m e = withModel (stepOf m e) (withTime time (stepOf m e .model))
+abbrev pub withTime : Stage → ℕ → Model → Model
+withTime stage time Off = Off
+withTime stage time (On s) = On (withCycle s (timed stage time (s .cycle)))
+
+unfoldable pub inventsTimes : Stage → ℕ → Step
+inventsTimes stage time m e = withModel (stepOf m e) (withTime stage time (stepOf m e .model))
 
 -- "or record counts": whatever number of records read
 abbrev pub counting : ℕ → List ℕ → List ℕ
 counting count [] = []
 counting count (n ∷ more) = count ∷ more
 
-unfoldable pub inventsCounts : ℕ → Runner
-inventsCounts count bytes = record { lines = ourRun bytes .lines; last = counting count (ourRun bytes .last) }
+unfoldable pub inventsCounts : ℕ → Walker
+inventsCounts count bytes = record { lines = ourWalk bytes .lines; last = counting count (ourWalk bytes .last) }
 
 -- "A constant log writer": whatever bytes, for every event
 unfoldable pub writesConstant : List ℕ → Writer
 writesConstant bytes e buffer = (written bytes buffer, put bytes buffer)
+
+-- throws every event away on a state whose band isn't that of its sample: after every run it is
+abbrev pub fresh : State → Bool
+fresh s = eqb (bandNumber (s .band)) (bandNumber (bandOf (s .profile) (s .registers) (s .sample .ts)))
+
+unfoldable pub dropsStray : Step
+dropsStray Off e = stepOf Off e
+dropsStray (On s) e = pick (fresh s) (stepOf (On s) e) (withModel (stepOf (On s) e) (On s))
+
+-- refuses every second power-on
+abbrev pub opens : Turn → Bool
+opens (Opens p) = true
+opens (Follows later) = false
+opens OpensOutside = false
+opens FollowsOutside = false
+
+unfoldable pub powersOnce : Step
+powersOnce Off e = stepOf Off e
+powersOnce (On s) e = pick (opens (turnOf e)) (refusedWith 5 (On s)) (stepOf (On s) e)

@@ -1,0 +1,102 @@
+-- What keeps the format answers as demand 1 says: a reader at every place, and a run of a log at its end.
+use Prim.Native.Nat.{ℕ, zero, suc, _+_, _≤_, _<_}
+use native.Mathlib.Omega.{arith}
+use mathlib.Core.Path.{_≡_, refl, sym, ap, subst}
+use mathlib.Core.List.{List, [], _∷_}
+use mathlib.Core.Logic.{_⊎_, inl, inr}
+use mathlib.Core.Bool.{Bool, true, false}
+use lib.Dec.{ltb}
+use borrow.Author.Tests.{ltb-true, ltb-false}
+use lib.ListN.{length, drop, length-append, length-drop}
+use Rattle.state_parts.specs.declared.state.Model.{Model}
+use Rattle.state_parts.specs.declared.state.Model.the-variants.{Off}
+use Rattle.log_number.specs.Promises.{Bytes}
+use Rattle.log_event.specs.declared.Event.{Event}
+use Rattle.log_record.specs.Records.{Met, met, refused, end}
+use Rattle.laws_step.specs.Rows.{Among}
+use Rattle.laws_format.specs.Format.{Spells, kind-then-numbers}
+use Rattle.laws_format.specs.Unreadable.{NoNumber, cut-off, five-high, too-large, zero-last, NoRecord, no-kind, stopped}
+use Rattle.laws_format.specs.Readers.{Reader, Stands, Reads}
+use Rattle.laws_demands.specs.Product.{Step, Reporter, Walker, Printed}
+use Rattle.laws_demands.specs.Printed.{Log, readOn, logFrom, linesBy, printedBy}
+use Rattle.laws_demands.specs.Second.{Walks}
+use Rattle.laws_demands.specs.First.{ReadAt, event, unreadable, Walked, whole}
+use Rattle.laws_demands.specs.First as first
+
+-- a spelling has a byte, and an unreadable place too
+pub some-byte : (e : Event) (bytes : List ℕ) → Spells e bytes → 1 ≤ length bytes
+some-byte e _ (kind-then-numbers _ kind ns bytes l n) = omega arith
+
+one-to-three : (n : ℕ) (s : List ℕ) → NoNumber n s → Among n 1 3
+one-to-three _ _ (cut-off high h l) = (omega arith, omega arith)
+one-to-three _ _ (five-high high rest h l) = (omega arith, omega arith)
+one-to-three _ _ (too-large n groups rest g l) = (omega arith, omega arith)
+one-to-three _ _ (zero-last high rest h l k) = (omega arith, omega arith)
+
+one-to-four : (n : ℕ) (s : List ℕ) → NoRecord n s → Among n 1 4 × (1 ≤ length s)
+one-to-four _ _ (no-kind b rest h) = ((omega arith, omega arith), omega arith)
+one-to-four _ _ (stopped n kind e all ns before left l k h none) = let w = one-to-three n left none in ((w .0, omega (arith, w .1)), omega arith)
+
+module _ (read : Reader) (keeps : Reads read) (bytes : List ℕ) (are : Bytes bytes) where
+  within : (at : ℕ) (e : Event) (next : ℕ) → Stands bytes at e next → (at < next) × (next ≤ length bytes)
+  within at e next s =
+      let some = some-byte e (s .spelling) (s .spells) in
+      let long = ap length (s .start) in
+      let parts = length-append (s .spelling) (drop next bytes) in
+      let left = length-drop at bytes in
+      let right = length-drop next bytes in
+      (omega (arith, some, s .long), omega (arith, some, s .long, long, parts, left, right))
+
+  read-by : (at : ℕ) (x : Met) → read bytes at ≡ x → ReadAt bytes at x
+  read-by at (met e next) h = let w = within at e next (keeps .only bytes are at e next h) in event e next (w .0) (w .1)
+  read-by at (refused n place) h =
+      let row = keeps .refuses bytes are at n place .0 h in
+      let k = one-to-four n (drop at bytes) (row .0) in
+      subst (λ (q : ℕ). ReadAt bytes at (refused n q)) (sym (row .1)) (unreadable n (omega (arith, k .1, length-drop at bytes)) (k .0))
+  read-by at end h = first.end (keeps .ends bytes are at .0 h)
+
+  pub reads-answer : (at : ℕ) → ReadAt bytes at (read bytes at)
+  reads-answer at = read-by at (read bytes at) refl
+
+  -- a log that was read from a place on, with records enough allowed for: to its end, or to what can't be read
+  abbrev Ended : Log → Type 0
+  Ended l = ((l .code ≡ 0) × (l .offset ≡ length bytes)) ⊎ (Among (l .code) 1 4 × (l .offset < length bytes))
+
+  ended-by : (most at : ℕ) → at ≤ length bytes → ((next : ℕ) → next ≤ length bytes → length bytes < next + most → Ended (logFrom read most bytes next))
+      → length bytes < at + suc most → (x : Met) → ReadAt bytes at x → Ended (readOn at x (λ next. logFrom read most bytes next))
+  ended-by most at inside more room _ (event e next ahead in-log) = more next in-log (omega arith)
+  ended-by most at inside more room _ (unreadable n in-log w) = inr (w, in-log)
+  ended-by most at inside more room _ (first.end late) = inl (refl, omega arith)
+
+  ended : (most at : ℕ) → at ≤ length bytes → length bytes < at + most → Ended (logFrom read most bytes at)
+  unfolding logFrom
+  ended zero at inside room = absurd (omega arith)
+  ended (suc most) at inside room = ended-by most at inside (λ next h k. ended most next h k) room (read bytes at) (reads-answer at)
+
+-- a line for each event
+lines-count : (step : Step) (report : Reporter) (es : List Event) (m : Model) (number : ℕ) → length (linesBy step report m number es) ≡ length es
+unfolding linesBy
+lines-count step report [] m number = refl
+lines-count step report (e ∷ es) m number = ap suc (lines-count step report es (step m e .model) (suc number))
+
+pub walk-answers : (step : Step) (report : Reporter) (read : Reader) → Reads read → (bytes : List ℕ) → Bytes bytes → Walked bytes (printedBy step report read bytes)
+unfolding printedBy
+walk-answers step report read keeps bytes are = by (ended read keeps bytes are (suc (length bytes)) 0 (omega arith) (omega arith))
+  where
+    log : Log
+    log = logFrom read (suc (length bytes)) bytes 0
+
+    count : length (log .events) ≡ length (linesBy step report Off 0 (log .events))
+    count = sym (lines-count step report (log .events) Off 0)
+
+    by : Ended read keeps bytes are log → Walked bytes (printedBy step report read bytes)
+    by (inl h) = whole (λ i. count i ∷ h .0 i ∷ h .1 i ∷ [])
+    by (inr h) = first.stopped (log .code) (log .offset) (h .0) (h .1) (λ i. count i ∷ log .code ∷ log .offset ∷ [])
+
+pub walked : (step : Step) (report : Reporter) (read : Reader) (walk : Walker) → Walks step report read walk → Reads read → (bytes : List ℕ) → Bytes bytes → Walked bytes (walk bytes)
+walked step report read walk by keeps bytes are = go (ltb 65536 (length bytes)) refl
+  where
+    go : (t : Bool) → ltb 65536 (length bytes) ≡ t → Walked bytes (walk bytes)
+    go true e = let long = ltb-true 65536 (length bytes) e in first.too-long long (by .stops bytes long)
+    go false e =
+        subst (λ (w : Printed). Walked bytes w) (sym (by .walks bytes are (ltb-false 65536 (length bytes) e))) (walk-answers step report read keeps bytes are)

@@ -1,0 +1,35 @@
+-- The converse: whatever product meets demands 1 and 2 is this one. What they leave open is what a log that is no byte string and an event with no spelling come to, which the
+-- program's types have none of.
+use Prim.Native.Nat.{ℕ}
+use mathlib.Core.Path.{_≡_}
+use mathlib.Core.List.{List}
+use Rattle.state_parts.specs.declared.state.State.{State}
+use Rattle.state_parts.specs.declared.state.Model.{Model}
+use Rattle.state_registers.specs.Reads.{readRegisterOf}
+use Rattle.log_number.specs.Promises.{Bytes}
+use Rattle.log_event.specs.declared.Event.{Event}
+use Rattle.report_state.specs.Report.{reportOf}
+use Rattle.report_state.specs.Stats.{statOf}
+use Rattle.step_event.specs.Steps.{stepOf}
+use Rattle.laws_format.specs.Format.{Spells}
+use Rattle.laws_format.specs.Ours.{ourRead, ourWrite}
+use Rattle.laws_demands.specs.Product.{Product}
+use Rattle.laws_demands.specs.First.{FirstDemand}
+use Rattle.laws_demands.specs.Second.{SecondDemand}
+use Rattle.laws_demands.specs.Ours.{ourWalk}
+
+-- each call is the definition that its contract cites
+pub record IsOurs (p : Product) : Type 0 where
+  -- on every model, those that hold what they may not included
+  pub steps : (m : Model) (e : Event) → p .step m e ≡ stepOf m e
+  pub reports : (s : State) → p .report s ≡ reportOf s
+  pub stats : (s : State) → p .stat s ≡ statOf s
+  pub registers : (m : Model) (address : ℕ) → p .register m address ≡ readRegisterOf m address
+  -- on every byte string, at every place
+  pub reads : (bytes : List ℕ) → Bytes bytes → (at : ℕ) → p .read bytes at ≡ ourRead bytes at
+  pub walks : (bytes : List ℕ) → Bytes bytes → p .walk bytes ≡ ourWalk bytes
+  -- on every event that has a spelling, into every buffer
+  pub writes : (e : Event) (spelling : List ℕ) → Spells e spelling → (buffer : List ℕ) → p .write e buffer ≡ ourWrite e buffer
+
+abbrev pub OnlyOurs : Type 0
+OnlyOurs = (p : Product) → FirstDemand p → SecondDemand p → IsOurs p
