@@ -21,14 +21,14 @@ split (suc n) [] = refl
 split (suc n) (a ∷ l) = ap (λ t. a ∷ t) (split n l)
 
 -- a record has a byte, so it stands within the log
-inside : {bytes : List ℕ} {at : ℕ} {e : Event} {next : ℕ} → Stands bytes at e next → at ≤ length bytes
+pub inside : {bytes : List ℕ} {at : ℕ} {e : Event} {next : ℕ} → Stands bytes at e next → at ≤ length bytes
 inside {bytes} {at} {e} {next} k =
     let some = subst (λ l. 0 < length l) (sym (spells-are (k .spells) .0)) (some-long e) in
     let long = ap length (k .start) ∙ length-append (k .spelling) (drop next bytes) in
     omega (arith, length-drop at bytes)
 
 -- what stands at a place is read there
-stands : (read : Reader) → Reads read → (bytes : List ℕ) (at : ℕ) (e : Event) (next : ℕ) → Stands bytes at e next → read bytes at ≡ met e next
+pub stands : (read : Reader) → Reads read → (bytes : List ℕ) (at : ℕ) (e : Event) (next : ℕ) → Stands bytes at e next → read bytes at ≡ met e next
 stands read d bytes at e next k =
     let long : length (take at bytes) ≡ at = length-take-le at bytes (inside k) in
     let whole : take at bytes ++ (k .spelling ++ drop next bytes) ≡ bytes = ap (λ l. take at bytes ++ l) (sym (k .start)) ∙ split at bytes in
