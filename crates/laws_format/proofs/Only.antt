@@ -20,17 +20,18 @@ split zero l = refl
 split (suc n) [] = refl
 split (suc n) (a ∷ l) = ap (λ t. a ∷ t) (split n l)
 
--- a record has a byte, so it stands within the log
-pub inside : {bytes : List ℕ} {at : ℕ} {e : Event} {next : ℕ} → Stands bytes at e next → at ≤ length bytes
-inside {bytes} {at} {e} {next} k =
+-- a record has a byte, and stands within the log
+pub ahead : {bytes : List ℕ} {at : ℕ} {e : Event} {next : ℕ} → Stands bytes at e next → (at < next) × (next ≤ length bytes)
+ahead {bytes} {at} {e} {next} k =
     let some = subst (λ l. 0 < length l) (sym (spells-are (k .spells) .0)) (some-long e) in
     let long = ap length (k .start) ∙ length-append (k .spelling) (drop next bytes) in
-    omega (arith, length-drop at bytes)
+    let far = k .long in
+    (omega arith, omega (arith, length-drop at bytes, length-drop next bytes))
 
 -- what stands at a place is read there
 pub stands : (read : Reader) → Reads read → (bytes : List ℕ) (at : ℕ) (e : Event) (next : ℕ) → Stands bytes at e next → read bytes at ≡ met e next
 stands read d bytes at e next k =
-    let long : length (take at bytes) ≡ at = length-take-le at bytes (inside k) in
+    let long : length (take at bytes) ≡ at = length-take-le at bytes (omega (arith, ahead k)) in
     let whole : take at bytes ++ (k .spelling ++ drop next bytes) ≡ bytes = ap (λ l. take at bytes ++ l) (sym (k .start)) ∙ split at bytes in
     let there : read (take at bytes ++ (k .spelling ++ drop next bytes)) (length (take at bytes)) ≡ met e (length (take at bytes) + length (k .spelling)) =
     d .back e (k .spelling) (k .spells) (take at bytes) (drop next bytes) in
