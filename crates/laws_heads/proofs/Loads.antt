@@ -5,30 +5,26 @@ use mathlib.Core.Bool.{Bool, true, false}
 use mathlib.Core.List.{List, [], _∷_, _++_}
 use lib.Dec.{ltb}
 use lib.ListN.{length}
-use borrow.Author.Tests.{lt-ltb, le-ltb, eq-eqb}
+use borrow.Author.Tests.{eq-eqb}
 use Rattle.base.specs.Pick.{pick}
-use Rattle.base.specs.Told.{accepted}
-use Rattle.log_number.specs.Promises.{Bytes}
-use Rattle.state_parts.specs.declared.state.Model.{Model}
+use Rattle.base.specs.Told.{Told, accepted, refused}
 use Rattle.log_event.specs.Kinds.{kinds}
 use Rattle.log_event.specs.declared.Event.{Event}
 use Rattle.log_record.specs.Records.{met, end, recordAt}
 use Rattle.log_record.specs.Records as log
-use Rattle.step_event.specs.Pages.{restOf}
 use Rattle.c_image.specs.Images.{imageLength, modelIn}
 use Rattle.c_event.specs.Given.{givenOf}
 use Rattle.c_calls.specs.Replaying.{walkFrom}
 use Rattle.c_calls.specs.Promises.{ourCalls}
-use Rattle.laws_images.specs.Promises.{afterRead, afterGiven, whereRoom}
+use Rattle.laws_images.specs.Promises.{afterRead, afterGiven}
 use Rattle.laws_images.proofs.Keeping.{keeps-image}
 use Rattle.laws_account.specs.Refused.{Past, none, nextOf, pastOf}
 use Rattle.laws_account.specs.States.{modelOf}
 use Rattle.laws_account.specs.Runs.{Lawful}
 use Rattle.laws_account.proofs.Agreeing.{next-model}
 use Rattle.laws_account.proofs.Logging.{follows, past-lawful}
-use Rattle.laws_heads.specs.Given.{EventGives, given, no-room, no-kind, not-as-many, PlayGives, played, no-room-shown, no-record, ReplayGives}
 use Rattle.laws_heads.specs.Moved.{Moved, off, event, play, replay}
-use Rattle.laws_heads.proofs.Givens.{is-given, not-given, unknown, NoneMet, met-there, none-there, all-read}
+use Rattle.laws_heads.proofs.Givens.{givenList, event-is, readList, play-is, all-read}
 
 -- one list of events after another
 pub past-after : (es new : List Event) (h : Past) → pastOf h (es ++ new) ≡ pastOf (pastOf h es) new
@@ -36,35 +32,24 @@ unfolding pastOf
 past-after [] new h = refl
 past-after (e ∷ es) new h = past-after es new (nextOf h e)
 
-same : (t : Bool) (m : Model) → pick t m m ≡ m
-same true m = refl
-same false m = refl
-
-not-moved : (m : Model) (x : log.Met) → NoneMet x → afterRead m x ≡ m
-not-moved m (met e next) h = absurd h
-not-moved m (log.refused n place) h = refl
-not-moved m end h = refl
-
 -- the model after each call
 module _ (h : Past) (l : Lawful h) where
-  after-event : (kind : ℕ) (words shown : List ℕ) {new : List Event} → EventGives kind words (length shown) new
-      → whereRoom shown (modelOf h) (afterGiven (modelOf h) (givenOf kind words)) ≡ modelOf (pastOf h new)
+  by-given : (t : Bool) (x : Told Event) → pick t (modelOf h) (afterGiven (modelOf h) x) ≡ modelOf (pastOf h (pick t [] (givenList x)))
   unfolding pastOf
-  after-event kind words shown (given e ns k small same-words room) = rw (same-words, is-given k small, le-ltb (length shown) 28 room, next-model h l e)
-  after-event kind words shown (no-room short) = rw (lt-ltb (length shown) 28 short)
-  after-event kind words shown (no-kind out) = rw (unknown kind words out, same (ltb (length shown) 28) (modelOf h))
-  after-event kind words shown (not-as-many e ns k other) = rw (not-given k words other, same (ltb (length shown) 28) (modelOf h))
+  by-given true x = refl
+  by-given false (accepted e) = next-model h l e
+  by-given false (refused n) = refl
 
-  after-play : (log : List ℕ) → Bytes log → (place : ℕ) (shown : List ℕ) {new : List Event} → PlayGives log place (length shown) new
-      → whereRoom shown (modelOf h) (afterRead (modelOf h) (recordAt kinds log place)) ≡ modelOf (pastOf h new)
+  by-read : (t : Bool) (x : log.Met) → pick t (modelOf h) (afterRead (modelOf h) x) ≡ modelOf (pastOf h (pick t [] (readList x)))
   unfolding pastOf
-  after-play log bs place shown (played e next k room) = rw (met-there k, le-ltb (length shown) 28 room, next-model h l e)
-  after-play log bs place shown (no-room-shown short) = rw (lt-ltb (length shown) 28 short)
-  after-play log bs place shown (no-record stop) = rw (not-moved (modelOf h) (recordAt kinds log place) (none-there bs stop), same (ltb (length shown) 28) (modelOf h))
+  by-read true x = refl
+  by-read false (met e next) = next-model h l e
+  by-read false (log.refused n place) = refl
+  by-read false end = refl
 
-  after-replay : (log : List ℕ) → Bytes log → (place : ℕ) {new : List Event} → ReplayGives log place new
-      → restOf log (walkFrom (modelOf h) place) .last .model ≡ modelOf (pastOf h new)
-  after-replay log bs place r = rw (← all-read bs r) (follows _ log (walkFrom (modelOf h) place) h l refl)
+-- what is read after events is what was given after them
+joined : (es : List Event) {new got : List Event} → new ≡ got → pastOf (pastOf none es) got ≡ pastOf none (es ++ new)
+joined es {new} {got} e = ap (pastOf (pastOf none es)) (sym e) ∙ sym (past-after es new none)
 
 off-past : modelOf (pastOf none []) ≡ modelOf none
 unfolding pastOf
@@ -77,10 +62,10 @@ pub loads : {es : List Event} {image : List ℕ} → Moved ourCalls es image →
 loads (off part long) = keeps-image .off part (eq-eqb (length part) imageLength long) ∙ ap accepted (sym off-past)
 loads (event es image v kind words bs shown new g) =
     keeps-image .event image _ (loads v) kind words bs shown
-    ∙ ap accepted (after-event (pastOf none es) (lawful es) kind words shown g ∙ ap modelOf (sym (past-after es new none)))
+    ∙ ap accepted (by-given (pastOf none es) (lawful es) (ltb (length shown) 28) (givenOf kind words) ∙ ap modelOf (joined es (event-is kind words (length shown) g)))
 loads (play es image v log bs place shown new g) =
     keeps-image .play image _ (loads v) log bs place shown
-    ∙ ap accepted (after-play (pastOf none es) (lawful es) log bs place shown g ∙ ap modelOf (sym (past-after es new none)))
+    ∙ ap accepted (by-read (pastOf none es) (lawful es) (ltb (length shown) 28) (recordAt kinds log place) ∙ ap modelOf (joined es (play-is bs place (length shown) g)))
 loads (replay es image v log bs place new g) =
     keeps-image .replay image _ (loads v) log bs place
-    ∙ ap accepted (after-replay (pastOf none es) (lawful es) log bs place g ∙ ap modelOf (sym (past-after es new none)))
+    ∙ ap accepted (follows _ log (walkFrom _ place) (pastOf none es) (lawful es) refl ∙ ap modelOf (joined es (sym (all-read bs g))))

@@ -4,6 +4,7 @@ use mathlib.Core.Path.{_≡_}
 use mathlib.Core.List.{List, [], _∷_}
 use mathlib.Core.Logic.{_≢_}
 use lib.ListN.{length}
+use Rattle.log_number.specs.Promises.{Bytes}
 use Rattle.log_event.specs.declared.Event.{Event}
 use Rattle.c_words.specs.Words.{bytesOf}
 use Rattle.laws_format.specs.Format.{Listed, AllSmall}
@@ -39,3 +40,12 @@ pub data PlayGives (log : List ℕ) (place room : ℕ) : List Event → Type 0 w
 pub data ReplayGives (log : List ℕ) : ℕ → List Event → Type 0 where
   stops : (place : ℕ) → NoRecordAt log place → ReplayGives log place []
   goes-on : (place : ℕ) (e : Event) (next : ℕ) (es : List Event) → Stands log place e next → ReplayGives log next es → ReplayGives log place (e ∷ es)
+
+-- bytes that are lent give one list of events, and one alone
+abbrev pub OneList : (List Event → Type 0) → Type 0
+OneList gives = (new : List Event) × (gives new × ((other : List Event) → gives other → other ≡ new))
+
+pub record EveryInputGives : Type 0 where
+  pub event : (kind : ℕ) (words : List ℕ) → Bytes words → (room : ℕ) → OneList (EventGives kind words room)
+  pub play : (log : List ℕ) → Bytes log → (place room : ℕ) → OneList (PlayGives log place room)
+  pub replay : (log : List ℕ) → Bytes log → (place : ℕ) → OneList (ReplayGives log place)

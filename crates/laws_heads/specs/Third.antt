@@ -31,13 +31,13 @@ pub record Shows (r : Run) (more number : ℕ) (before after : List ℕ) : Type 
 
 -- of every image that calls led to, and the run that the events they were given leave: the accepted ones since the latest accepted power-on
 pub record ThirdOfImages (calls : Calls) : Type 0 where
-  -- "The report, the flags and STAT of the model as it stands;"
+  -- "The report, the flags and STAT of the model as it stands;": two words more
   pub report : (es : List Event) (image : List ℕ) → Moved calls es image → (r : Run) → pastOf none es ≡ some r → (part : List ℕ) → reportBytes ≤ length part
       → Shows r 2 (calls .report image part .answer .number) part (calls .report image part .bytes)
   -- "6 before a power-on."
   pub before : (es : List Event) (image : List ℕ) → Moved calls es image → pastOf none es ≡ none → (part : List ℕ) → reportBytes ≤ length part
       → calls .report image part ≡ left (answered 6) part
-  -- "Accepted: the image is the model after it and `shown` shows it.": also pulse, held flags, and the flags that the event handed back
+  -- "Accepted: the image is the model after it and `shown` shows it.": three words more, "pulse, held flags, and the flags that the event handed back"
   pub event : (es : List Event) (image : List ℕ) → Moved calls es image → (kind : ℕ) (words shown : List ℕ) (e : Event) → EventGives kind words (length shown) (e ∷ [])
       → refusalOf (pastOf none es) e ≡ 0 → (r : Run) → pastOf none (es ++ (e ∷ [])) ≡ some r
       → Shows r 3 (calls .event image kind words shown .answer .number) shown (calls .event image kind words shown .shown)
