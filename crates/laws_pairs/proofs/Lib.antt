@@ -4,3 +4,5 @@ pub mod Comparing
 pub mod Handing
 pub mod Texts
 pub mod Printing
+pub mod Examples
+pub mod Refutes

@@ -5,3 +5,5 @@ pub mod Text
 pub mod Files
 pub mod Ours
 pub mod OurText
+pub mod Wrong
+pub mod Rows
