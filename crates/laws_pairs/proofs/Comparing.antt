@@ -30,10 +30,10 @@ module _ {both : List Event} {start : List ℕ} (so : SpellsAll both start) wher
   says (event e n s r p) over apart = rw append-nil (second-is-start both start (s ++ r) so)
   says (unreadable n rest bad) over apart = rw append-nil (second-is-start both start rest so)
   says over over apart = rw append-nil (subst (λ l. SideBySide l start (first (length start))) (append-nil start) (second-is-start both start [] so))
-  says over (event f m t o q) apart = rw append-nil (first-is-start both start (t ++ o) so (some-bytes q o))
-  says over (unreadable n other bad) apart = rw append-nil (first-is-start both start other so (bad-bytes bad))
-  says (unreadable n rest bad) (event f m t o q) apart = first-unreadable n both start rest (t ++ o) so bad (some-bytes q o)
-  says (unreadable n rest bad) (unreadable m other worse) apart = first-unreadable n both start rest other so bad (bad-bytes worse)
+  says over (event f m t o q) apart = rw append-nil (first-is-start both start (t ++ o) so (omega (arith, some-bytes q o)))
+  says over (unreadable n other bad) apart = rw append-nil (first-is-start both start other so (omega (arith, bad-bytes bad)))
+  says (unreadable n rest bad) (event f m t o q) apart = first-unreadable n both start rest (t ++ o) so bad (omega (arith, some-bytes q o))
+  says (unreadable n rest bad) (unreadable m other worse) apart = first-unreadable n both start rest other so bad (omega (arith, bad-bytes worse))
   says (event e n s r p) (unreadable m other bad) apart = second-unreadable m both e start s r other so p bad
   says (event e n s r p) (event f m t o q) apart = different both e f start s r t o so p q (alike e f n m apart)
 
