@@ -4,7 +4,9 @@ use Rattle.laws_step.proofs.Given.{each-given}
 use Rattle.laws_account.proofs.Agreeing.{outcome-is-step}
 use Rattle.laws_account.proofs.Looking.{stat-is-model, register-is-model}
 use Rattle.laws_format.proofs.Keeping.{our-reads, our-writes}
-use Rattle.laws_demands.specs.Ours.{SecondHolds}
+use Rattle.laws_pairs.proofs.Comparing.{our-compares}
+use Rattle.laws_pairs.proofs.Printing.{our-printed}
+use Rattle.laws_demands.specs.Ours.{ourPartlog, SecondHolds}
 use Rattle.laws_demands.proofs.Prints.{our-walks}
 use Rattle.laws_demands.proofs.Reports.{reports-are}
 
@@ -17,4 +19,6 @@ second-holds = record {
   reads = our-reads;
   writes = our-writes;
   walks = our-walks;
+  compares = our-compares;
+  partlog = λ a b are bes. our-printed a b are bes (ourPartlog a b) .1 refl;
 }

@@ -9,6 +9,7 @@ pub mod HoldsFirst
 pub mod HoldsSecond
 pub mod HoldsThird
 pub mod Only
+pub mod Parts
 mod Invented
 pub mod RefutesFirst
 pub mod RefutesSecond

@@ -21,6 +21,8 @@ use Rattle.laws_step.proofs.Given.{each-given}
 use Rattle.step_event.proofs.Keeps.{refused-leaves}
 use Rattle.laws_format.specs.Ours.{ourRead}
 use Rattle.laws_format.specs.Readers.{Reader, Reads}
+use Rattle.laws_pairs.proofs.Comparing.{only-comparer}
+use Rattle.laws_pairs.proofs.Printing.{our-printed}
 use Rattle.laws_format.proofs.Only.{only-reader, only-writer}
 use Rattle.laws_demands.specs.Product.{Product}
 use Rattle.laws_demands.specs.Printed.{readOn, logFrom, linesBy, printedBy}
@@ -81,7 +83,9 @@ module _ (p : Product) (a : FirstDemand p) (b : SecondDemand p) where
     stats = b .stats .shows;
     registers = b .registers .shows;
     reads = only-reader (p .read) (b .reads);
+    compares = only-comparer (p .compare) (b .compares);
     walks = one-walk;
+    partlogs = λ x y are bes. our-printed x y are bes (p .partlog x y) .0 (b .partlog x y are bes);
     writes = only-writer (p .write) (b .writes);
   }
 

@@ -17,7 +17,7 @@ use Rattle.step_kinds.specs.Answers.{Outcome}
 use Rattle.report_state.specs.declared.answer.Report.{Report}
 use Rattle.report_state.specs.declared.line.Line.{Line}
 use Rattle.laws_format.specs.Readers.{Reader}
-use Rattle.laws_demands.specs.Product.{Step, Reporter, Printed}
+use Rattle.laws_demands.specs.Product.{Step, Reporter, LogLines}
 
 -- "all else is the state held, zeros before power-on"
 abbrev pub reportIn : Reporter → Model → Report
@@ -76,11 +76,11 @@ logFrom read zero bytes at = record { events = []; code = 0; offset = at }
 logFrom read (suc most) bytes at = readOn at (read bytes at) (λ next. logFrom read most bytes next)
 
 -- a whole log, on a model that is off: it has no more records than bytes
-unfoldable pub printedBy : Step → Reporter → Reader → List ℕ → Printed
+unfoldable pub printedBy : Step → Reporter → Reader → List ℕ → LogLines
 printedBy step report read bytes =
     let log = logFrom read (suc (length bytes)) bytes 0 in
     record { lines = linesBy step report Off 0 (log .events); last = length (log .events) ∷ log .code ∷ log .offset ∷ [] }
 
 -- 13: "program input above 65,536 bytes": "it prints only `end 0 13 0`"
-abbrev pub tooLong : Printed
+abbrev pub tooLong : LogLines
 tooLong = record { lines = []; last = 0 ∷ 13 ∷ 0 ∷ [] }

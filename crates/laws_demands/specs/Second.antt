@@ -24,6 +24,8 @@ use Rattle.laws_account.specs.Runs.{Lawful}
 use Rattle.laws_account.specs.Reported.{reportAt}
 use Rattle.laws_account.specs.Looked.{statAt, registerAt}
 use Rattle.laws_format.specs.Readers.{Reader, Reads, Writes}
+use Rattle.laws_pairs.specs.Compared.{Compares}
+use Rattle.laws_pairs.specs.Files.{Printed}
 use Rattle.laws_demands.specs.Product.{Step, Reporter, Walker, Product}
 use Rattle.laws_demands.specs.Printed.{printedBy, tooLong}
 
@@ -64,3 +66,6 @@ pub record SecondDemand (p : Product) : Type 0 where
   pub reads : Reads (p .read)
   pub writes : Writes (p .write)
   pub walks : Walks (p .step) (p .report) (p .read) (p .walk)
+  pub compares : Compares (p .compare)
+  -- what partlog prints: 13 above 65,536 bytes, else what the two logs come to
+  pub partlog : (a b : List ℕ) → Bytes a → Bytes b → Printed a b (p .partlog a b)
