@@ -7,6 +7,7 @@ use Rattle.laws_format.proofs.Keeping.{our-reads, our-writes}
 use Rattle.laws_pairs.proofs.Comparing.{our-compares}
 use Rattle.laws_pairs.proofs.Printing.{our-printed}
 use Rattle.laws_demands.specs.Ours.{ourPartlog, SecondHolds}
+use Rattle.laws_demands.proofs.Places.{plays-at}
 use Rattle.laws_demands.proofs.Prints.{our-walks}
 use Rattle.laws_demands.proofs.Reports.{reports-are}
 
@@ -21,4 +22,5 @@ second-holds = record {
   walks = our-walks;
   compares = our-compares;
   partlog = λ a b are bes. our-printed a b are bes (ourPartlog a b) .1 refl;
+  places = plays-at;
 }

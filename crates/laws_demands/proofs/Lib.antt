@@ -4,6 +4,7 @@ mod Prints
 mod Reports
 mod Logs
 mod Against
+mod Places
 mod Days
 pub mod HoldsFirst
 pub mod HoldsSecond

@@ -69,3 +69,5 @@ pub record SecondDemand (p : Product) : Type 0 where
   pub compares : Compares (p .compare)
   -- what partlog prints: 13 above 65,536 bytes, else what the two logs come to
   pub partlog : (a b : List ℕ) → Bytes a → Bytes b → Printed a b (p .partlog a b)
+  -- "The place is the record's start", the model's refusals in a log included: a record that a head plays
+  pub places : (image log : List ℕ) → Bytes log → (place : ℕ) (shown : List ℕ) → p .calls .play image log place shown .answer .place ≡ place
