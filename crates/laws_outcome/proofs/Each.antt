@@ -13,11 +13,11 @@ use Rattle.laws_step.proofs.Answers.{step-once}
 use Rattle.log_pairs.proofs.Answers.{compared-one}
 use Rattle.c_image.proofs.ImageLaws.{loaded-one}
 use Rattle.c_event.proofs.Answers.{given-one}
-use Rattle.laws_outcome.specs.One.{One, Tells, TellsBytes, itself}
+use Rattle.laws_outcome.specs.One.{One, Settled, Tells, TellsBytes, itself}
 use Rattle.step_event.specs.Pages.{Passed, pageTold, blankLine}
 use Rattle.step_event.specs.declared.walking.Walk.{Walk}
 use Rattle.step_event.specs.declared.paging.Page.{Page}
-use Rattle.laws_outcome.specs.Calls.{Turned, CodecCalls, ReaderCalls, ModelCalls, LogsCalls, FirmwareCalls, TextCalls}
+use Rattle.laws_outcome.specs.Calls.{Turned, TellsBytesWithin, CodecCalls, ReaderCalls, ModelCalls, LogsCalls, FirmwareCalls, TextCalls}
 use Rattle.laws_outcome.proofs.Settling.{contract-settles, contract-settles-bytes, itself-settles}
 use Rattle.laws_outcome.proofs.Answers.{known-settled, read-settled, write-settled, change-settled, finished-settled, came-settled, stop-settled, walk-settled}
 
@@ -28,6 +28,10 @@ plain given = contract-settles _ _ _ itself-settles given
 -- a record or a text that is written
 writes : (text part : List ℕ) → One (TellsBytes writtenTold (written text part) (put text part))
 writes text part = contract-settles-bytes _ _ _ written-one (written text part) (put text part)
+
+-- the same of a text that has so many bytes at the most
+within : {A B : Type 0} (told : A → B) → Settled told → (given : B) (bytes : List ℕ) (long most : ℕ) → One (TellsBytesWithin told given bytes long most)
+within told settled given bytes long most a b p q = contract-settles-bytes _ _ told settled given bytes a b (p .0, p .1) (q .0, q .1)
 
 -- a number that is what a definition gives, and has a bound beside it
 bounded : (given bound : ℕ) → One (λ (r : ℕ). (r ≡ given) × (r ≤ bound))
@@ -126,4 +130,9 @@ firmware-calls =
 
 pub text-calls : TextCalls
 text-calls =
-    record { line = λ numbers part. writes _ _; end = λ numbers part. writes _ _; page = λ most lines part. writes _ _; answer = λ compared part. writes _ _ }
+    record {
+      line = λ numbers part. writes _ _;
+      end = λ numbers part. writes _ _;
+      page = λ most lines part. within _ written-one _ _ _ _;
+      answer = λ compared part. writes _ _;
+    }

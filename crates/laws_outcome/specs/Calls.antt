@@ -39,7 +39,7 @@ use Rattle.step_event.specs.declared.walking.Walk.{Walk}
 use Rattle.step_event.specs.declared.paging.Page.{Page}
 use Rattle.report_state.specs.declared.line.Line.{Line}
 use Rattle.report_text.specs.Text.{lineText, endText}
-use Rattle.report_pages.specs.Text.{pageText}
+use Rattle.report_pages.specs.Text.{mostPage, pageText}
 use Rattle.log_pairs.specs.Comparing.{comparedTold, compareOf, inputsOf}
 use Rattle.log_pairs.specs.Rests as logs
 use Rattle.log_pairs.specs.Text.{answerText}
@@ -119,10 +119,14 @@ pub record FirmwareCalls : Type 0 where
   pub write : (kind : ℕ) (words out : List ℕ) → One (Tells itself (writeCallOf kind words out))
   pub compare : (one two : List ℕ) → One (Tells itself (compareCallOf one two))
 
+-- the same, with a bound on how long the text is
+abbrev pub TellsBytesWithin : {A B : Type 0} → (A → B) → B → List ℕ → ℕ → ℕ → A × List ℕ → Type 0
+TellsBytesWithin told given bytes long most outcome = (told (outcome .0) ≡ given) × (outcome .1 ≡ bytes) × (long ≤ most)
+
 -- what runlog and partlog print
 pub record TextCalls : Type 0 where
   pub line : (numbers part : List ℕ) → One (TellsBytes writtenTold (written (lineText numbers) part) (put (lineText numbers) part))
   pub end : (numbers part : List ℕ) → One (TellsBytes writtenTold (written (endText numbers) part) (put (endText numbers) part))
-  pub page : (most : ℕ) (lines : List Line) (part : List ℕ) → One (TellsBytes writtenTold (written (pageText most lines) part) (put (pageText most lines) part))
+  pub page : (most : ℕ) (lines : List Line) (part : List ℕ) → One (TellsBytesWithin writtenTold (written (pageText most lines) part) (put (pageText most lines) part) (length (pageText most lines)) mostPage)
   pub answer : (compared : Compared) (part : List ℕ)
       → One (TellsBytes writtenTold (written (answerText (comparedTold compared)) part) (put (answerText (comparedTold compared)) part))

@@ -3,7 +3,7 @@ ghost use mathlib.Core.Path.{_≡_};
 ghost use Prim.Native.Nat.{_≤_, min};
 ghost use lib.ListN.{length, take};
 ghost use Rattle.base.specs.Writing.{put, written, writtenTold};
-ghost use Rattle.report_pages.specs.Text.{numbersOf, linesText, pageCount, pageText};
+ghost use Rattle.report_pages.specs.Text.{numbersOf, linesText, pageCount, mostPage, pageText};
 use base::refusal::Refusal;
 use base::written::Written;
 use report_state::line::Line;
@@ -36,7 +36,7 @@ fn numbers_of(line: Line) -> LineNumbers
 // How many bytes the first `count` lines have.
 fn width(lines: PageLines, count: usize) -> usize
     requires { ⌜ count ≤ pageCount ⌝ }
-    ensures { λ r. ⌜ r ≡ length (linesText (take count lines)) ⌝ }
+    ensures { λ r. ⌜ (r ≡ length (linesText (take count lines))) × (r ≤ mostPage) ⌝ }
 {
     let mut sum: usize = 0;
     let mut i: usize = 0;
@@ -54,9 +54,16 @@ fn lesser(a: usize, b: usize) -> usize
     if a < b { a } else { b }
 }
 
+// How many bytes the first `most` lines of a page have.
+pub fn page_width(lines: PageLines, most: usize) -> usize
+    ensures { λ r. ⌜ (r ≡ length (pageText most lines)) × (r ≤ mostPage) ⌝ }
+{
+    width(lines, lesser(most, PAGE))
+}
+
 // Writes the first `most` lines of a page.
 pub fn page(out: &mut [u8], lines: PageLines, most: usize) -> Written
-    ensures { λ r. ⌜ (writtenTold r ≡ written (pageText most lines) (now (out .entry))) × (now (out .exit) ≡ put (pageText most lines) (now (out .entry))) ⌝ }
+    ensures { λ r. ⌜ (writtenTold r ≡ written (pageText most lines) (now (out .entry))) × (now (out .exit) ≡ put (pageText most lines) (now (out .entry))) × (length (pageText most lines) ≤ mostPage) ⌝ }
 {
     let count = lesser(most, PAGE);
     if out.len() < width(lines, count) {
