@@ -25,6 +25,8 @@ use Rattle.step_event.specs.declared.paging.Stop.the-variants as stop
 use Rattle.step_event.specs.Plays.{cameTold}
 use Rattle.step_event.specs.Walks.{walkedTold}
 use Rattle.step_event.specs.declared.walking.Walked.the-variants.{Record, End, Unreadable}
+use Rattle.step_text.specs.Prints.{printTold}
+use Rattle.step_text.specs.declared.answer.Print.the-variants as print
 use Rattle.laws_outcome.specs.One.{Settled}
 
 abbrev kindIn : Kinds.Kind → Option KindRow → Kinds.Kind
@@ -103,3 +105,9 @@ stop-settled (stop.Unreadable r p) (stop.Unreadable q t) e =
     let same : refusalNumber r ≡ refusalNumber q = cc in
     let refusal : r ≡ q = refusal-one r q same in
     cc
+
+pub print-settled : Settled printTold
+print-settled (print.Page n v o) (print.Page m w p) e = cc
+print-settled (print.Page n v o) (print.Refused q) e = absurd (let z : _≡_ {A = ℕ} 0 1 = cc in omega arith)
+print-settled (print.Refused r) (print.Page m w p) e = absurd (let z : _≡_ {A = ℕ} 0 1 = cc in omega arith)
+print-settled (print.Refused r) (print.Refused q) e = let n : refusalNumber r ≡ refusalNumber q = cc in ap print.Refused (refusal-one r q n)

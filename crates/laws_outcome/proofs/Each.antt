@@ -19,7 +19,7 @@ use Rattle.step_event.specs.declared.walking.Walk.{Walk}
 use Rattle.step_event.specs.declared.paging.Page.{Page}
 use Rattle.laws_outcome.specs.Calls.{Turned, TellsBytesWithin, CodecCalls, ReaderCalls, ModelCalls, LogsCalls, FirmwareCalls, TextCalls}
 use Rattle.laws_outcome.proofs.Settling.{contract-settles, contract-settles-bytes, itself-settles}
-use Rattle.laws_outcome.proofs.Answers.{known-settled, read-settled, write-settled, change-settled, finished-settled, came-settled, stop-settled, walk-settled}
+use Rattle.laws_outcome.proofs.Answers.{known-settled, read-settled, write-settled, change-settled, finished-settled, came-settled, stop-settled, walk-settled, print-settled}
 
 -- a result that is what a definition gives
 plain : {A : Type 0} → (given : A) → One (Tells itself given)
@@ -135,4 +135,5 @@ text-calls =
       end = λ numbers part. writes _ _;
       page = λ most lines part. within _ written-one _ _ _ _;
       answer = λ compared part. writes _ _;
+      print = λ log from room. within _ print-settled _ _ _ _;
     }

@@ -44,6 +44,7 @@ use Rattle.log_pairs.specs.Comparing.{comparedTold, compareOf, inputsOf}
 use Rattle.log_pairs.specs.Rests as logs
 use Rattle.log_pairs.specs.Text.{answerText}
 use Rattle.log_pairs.specs.declared.answer.Compared.{Compared}
+use Rattle.step_text.specs.Prints.{nextText, mostText, printTold, printedIn}
 use Rattle.c_event.specs.Given.{givenTold, givenOf}
 use Rattle.c_image.specs.Images.{loadedTold, modelIn, isLong, savedIn}
 use Rattle.c_calls.specs.Playing.{offOf, playOf, eventCallOf}
@@ -130,3 +131,5 @@ pub record TextCalls : Type 0 where
   pub page : (most : ℕ) (lines : List Line) (part : List ℕ) → One (TellsBytesWithin writtenTold (written (pageText most lines) part) (put (pageText most lines) part) (length (pageText most lines)) mostPage)
   pub answer : (compared : Compared) (part : List ℕ)
       → One (TellsBytes writtenTold (written (answerText (comparedTold compared)) part) (put (answerText (comparedTold compared)) part))
+  pub print : (log : List ℕ) (from : Walk) (room : List ℕ)
+      → One (TellsBytesWithin printTold (printedIn (nextText log from) room) (put (nextText log from .text) room) (length (nextText log from .text)) mostText)

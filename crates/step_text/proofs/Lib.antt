@@ -1,0 +1,5 @@
+-- The laws of the crate `step_text`.
+mod Heads
+mod Sizes
+mod Places
+pub mod Printing

@@ -1,0 +1,4 @@
+-- The definitions of the crate `step_text`.
+pub mod Runs
+pub mod Prints
+pub mod Promises
