@@ -1,5 +1,6 @@
 // Prints what the log on standard input comes to: reads it, then writes out page after page. All that matters is in `step_text::print`.
 ghost use mathlib.Core.Path.{_≡_};
+ghost use mathlib.Core.Bool.{true};
 ghost use lib.ListN.{length};
 ghost use Rattle.step_text.specs.Prints.{nextText, printTold, printed};
 use libc::STDERR_FILENO;
@@ -22,21 +23,24 @@ fn print_page(log: &[u8], from: Walk) -> Print
     page
 }
 
-// Prints page after page: 4,097 are the whole of any input (`RunPrints`, crate `step_text`).
-fn run(log: &[u8]) {
+// Prints page after page, and tells whether the last was among them: 4,097 are the whole of any input (`RunPrints`, crate `step_text`).
+fn run(log: &[u8]) -> bool
+    ensures { λ r. ⌜ r ≡ true ⌝ }
+{
     let mut walk = walking::start();
     let mut pages: usize = 0;
     while pages < 4097 {
         let page = print_page(log, walk);
         let Print::Page(_, after, over) = page else {
-            return;
+            return false;
         };
         if over {
-            return;
+            return true;
         }
         walk = after;
         pages += 1;
     }
+    false
 }
 
 // Whether a read failed. A read that fails looks like the input's end: one more read tells the two apart.

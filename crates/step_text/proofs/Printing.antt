@@ -132,3 +132,14 @@ unfolding endedOf wholeOf runText
 replay-agrees bytes bs few =
     let short : tooLong bytes ≡ false = le-ltb 65536 (length bytes) few in
     (rw (short, last-line bytes), ap (λ (t : NextText). t .walk) (all-are bytes short bs) ∙ sym (same-walk (wholeOf bytes .last) (wholeOf bytes .stop)))
+
+-- ---- what a loop over pages asks
+-- a page that something follows leaves one page less
+pub goes-on : (most : ℕ) (bytes : List ℕ) (w : Walk) → nextText bytes w .over ≡ false → untilOver (suc most) bytes w .over ≡ true → untilOver most bytes (nextText bytes w .walk) .over ≡ true
+unfolding untilOver
+goes-on most bytes w more h = rw more at h
+
+-- and the last is printed before none are left
+pub not-none : (bytes : List ℕ) (w : Walk) → untilOver 0 bytes w .over ≡ true → ⊥
+unfolding untilOver
+not-none bytes w h = let z : _≡_ {A = ℕ} 0 1 = cc in omega arith
