@@ -5,17 +5,15 @@ use mathlib.Core.Bool.{Bool, true, false}
 use mathlib.Core.Logic.{_≢_}
 use mathlib.Core.List.{List, [], _∷_, _++_, append-nil, append-assoc}
 use native.Mathlib.Omega.{arith}
-use native.Mathlib.Nat.{zero-add, suc-add}
-use lib.Dec.{ltb}
+use native.Mathlib.Nat.{suc-add}
 use lib.ListN.{length}
 use borrow.Author.Tests.{le-ltb, ltb-false}
 use Rattle.log_number.specs.Promises.{Bytes}
 use Rattle.report_state.specs.declared.line.Line.{Line}
-use Rattle.report_text.specs.Text.{endText, tooLong}
-use Rattle.report_pages.specs.Text.{numbersOf, linesText}
-use Rattle.report_text.specs.Text.{lineText}
+use Rattle.report_text.specs.Text.{tooLong}
+use Rattle.report_pages.specs.Text.{linesText}
 use Rattle.step_event.specs.Walks.{WalkTold, met, unreadable, end, walkOf, startWalk}
-use Rattle.step_event.specs.Pages.{StopTold, Passed, passedBy, pageOf, wholeOf, endOf}
+use Rattle.step_event.specs.Pages.{StopTold, Passed, passedBy, pageOf, wholeOf}
 use Rattle.step_event.specs.Pages as page
 use Rattle.step_event.specs.Wholes.{behind}
 use Rattle.step_event.specs.Rests.{endedBy, endedOf}
