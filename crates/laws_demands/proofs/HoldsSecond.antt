@@ -9,6 +9,7 @@ use Rattle.laws_pairs.proofs.Printing.{our-printed}
 use Rattle.laws_demands.specs.Ours.{ourPartlog, SecondHolds}
 use Rattle.laws_demands.proofs.Places.{plays-at}
 use Rattle.laws_demands.proofs.Prints.{our-walks}
+use Rattle.laws_demands.proofs.Texts.{our-text}
 use Rattle.laws_demands.proofs.Reports.{reports-are}
 
 pub second-holds : SecondHolds
@@ -21,6 +22,7 @@ second-holds = record {
   writes = our-writes;
   walks = our-walks;
   compares = our-compares;
+  runlog = λ bytes are. our-text bytes;
   partlog = λ a b are bes. our-printed a b are bes (ourPartlog a b) .1 refl;
   places = plays-at;
 }

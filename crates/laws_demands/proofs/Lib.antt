@@ -3,6 +3,7 @@ mod Answers
 mod Prints
 mod Reports
 mod Logs
+mod Texts
 mod Against
 mod Places
 mod Days

@@ -11,6 +11,7 @@ use Rattle.log_event.specs.declared.Event.{Event}
 use Rattle.report_state.specs.Report.{reportOf}
 use Rattle.report_state.specs.Stats.{statOf}
 use Rattle.step_event.specs.Steps.{stepOf}
+use Rattle.step_text.specs.Runs.{runText}
 use Rattle.laws_format.specs.Format.{Spells}
 use Rattle.laws_format.specs.Ours.{ourRead, ourWrite}
 use Rattle.laws_pairs.specs.Ours.{ourCompare}
@@ -30,6 +31,7 @@ pub record IsOurs (p : Product) : Type 0 where
   pub reads : (bytes : List ℕ) → Bytes bytes → (at : ℕ) → p .read bytes at ≡ ourRead bytes at
   pub compares : (a b : List ℕ) → Bytes a → Bytes b → p .compare a b ≡ ourCompare a b
   pub walks : (bytes : List ℕ) → Bytes bytes → p .walk bytes ≡ ourWalk bytes
+  pub runlogs : (bytes : List ℕ) → Bytes bytes → p .runlog bytes ≡ runText bytes
   pub partlogs : (a b : List ℕ) → Bytes a → Bytes b → p .partlog a b ≡ ourPartlog a b
   -- on every event that has a spelling, into every buffer
   pub writes : (e : Event) (spelling : List ℕ) → Spells e spelling → (buffer : List ℕ) → p .write e buffer ≡ ourWrite e buffer

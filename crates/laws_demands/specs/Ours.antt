@@ -13,6 +13,7 @@ use Rattle.log_event.specs.Kinds.{kinds}
 use Rattle.log_pairs.specs.Comparing.{inputsOf}
 use Rattle.log_pairs.specs.Text.{answerText}
 use Rattle.c_calls.specs.Promises.{ourCalls}
+use Rattle.step_text.specs.Runs.{runText}
 use Rattle.laws_format.specs.Ours.{ourRead, ourWrite}
 use Rattle.laws_pairs.specs.Ours.{ourCompare}
 use Rattle.laws_demands.specs.Product.{Walker, Product}
@@ -37,6 +38,7 @@ ours = record {
   write = ourWrite;
   compare = ourCompare;
   walk = ourWalk;
+  runlog = runText;
   partlog = ourPartlog;
   calls = ourCalls;
 }

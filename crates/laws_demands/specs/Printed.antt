@@ -1,7 +1,7 @@
--- What is printed of a log, in numbers, by any step, report and reader: "each record gives: number, kind, answer (0 or refusal), phase, current, voltage, input limit, pulse, flags" and
+-- What is printed of a log, in numbers by any step, report and reader, and the text of such numbers: "each record gives: number, kind, answer (0 or refusal), phase, current, voltage, input limit, pulse, flags" and
 -- "Last: `end`, records read, code (0 or 1-4), offset of the log's end or the unreadable record."
 use Prim.Native.Nat.{ℕ, zero, suc}
-use mathlib.Core.List.{List, [], _∷_}
+use mathlib.Core.List.{List, [], _∷_, _++_}
 use lib.ListN.{length}
 use Rattle.base.specs.Pick.{bitOf}
 use Rattle.base.specs.Volts.{packOf, millivoltsOf}
@@ -17,6 +17,7 @@ use Rattle.step_kinds.specs.Answers.{Outcome}
 use Rattle.report_state.specs.declared.answer.Report.{Report}
 use Rattle.report_state.specs.declared.line.Line.{Line}
 use Rattle.laws_format.specs.Readers.{Reader}
+use Rattle.laws_pairs.specs.Text.{LineText, EndText}
 use Rattle.laws_demands.specs.Product.{Step, Reporter, LogLines}
 
 -- "all else is the state held, zeros before power-on"
@@ -84,3 +85,11 @@ printedBy step report read bytes =
 -- 13: "program input above 65,536 bytes": "it prints only `end 0 13 0`"
 abbrev pub tooLong : LogLines
 tooLong = record { lines = []; last = 0 ∷ 13 ∷ 0 ∷ [] }
+
+abbrev pub lineNumbers : Line → List ℕ
+lineNumbers l = l .number ∷ l .kind ∷ l .answer ∷ l .phase ∷ l .current ∷ l .voltage ∷ l .limit ∷ l .pulse ∷ l .flags ∷ []
+
+-- "in decimal, one space apart": a line after the other, and the last one
+pub data RunText : List Line → List ℕ → List ℕ → Type 0 where
+  last-line : (records code offset : ℕ) (text : List ℕ) → EndText records code offset text → RunText [] (records ∷ code ∷ offset ∷ []) text
+  line-then : (l : Line) (ls : List Line) (last text rest : List ℕ) → LineText (lineNumbers l) text → RunText ls last rest → RunText (l ∷ ls) last (text ++ rest)

@@ -39,7 +39,8 @@ pub record Product : Type 0 where
   pub write : Writer
   pub compare : Comparer
   pub walk : Walker
-  -- the bytes that partlog prints of its two files
+  -- the bytes that runlog prints of its input, and partlog of its two files
+  pub runlog : List ℕ → List ℕ
   pub partlog : List ℕ → List ℕ → List ℕ
   -- the calls for C
   pub calls : Calls

@@ -27,7 +27,7 @@ use Rattle.laws_format.specs.Readers.{Reader, Reads, Writes}
 use Rattle.laws_pairs.specs.Compared.{Compares}
 use Rattle.laws_pairs.specs.Files.{Printed}
 use Rattle.laws_demands.specs.Product.{Step, Reporter, Walker, Product}
-use Rattle.laws_demands.specs.Printed.{printedBy, tooLong}
+use Rattle.laws_demands.specs.Printed.{printedBy, tooLong, RunText}
 
 -- "Each accepted event moves the model as document 01 says"
 pub record Moves (step : Step) : Type 0 where
@@ -67,6 +67,8 @@ pub record SecondDemand (p : Product) : Type 0 where
   pub writes : Writes (p .write)
   pub walks : Walks (p .step) (p .report) (p .read) (p .walk)
   pub compares : Compares (p .compare)
+  -- what runlog prints: the run of its input, as text
+  pub runlog : (bytes : List ℕ) → Bytes bytes → RunText (p .walk bytes .lines) (p .walk bytes .last) (p .runlog bytes)
   -- what partlog prints: 13 above 65,536 bytes, else what the two logs come to
   pub partlog : (a b : List ℕ) → Bytes a → Bytes b → Printed a b (p .partlog a b)
   -- "The place is the record's start", the model's refusals in a log included: a record that a head plays

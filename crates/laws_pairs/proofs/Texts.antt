@@ -5,9 +5,9 @@ use mathlib.Core.List.{List, [], _∷_, _++_}
 use mathlib.Core.Logic.{_↔_}
 use native.Mathlib.Omega.{arith}
 use Rattle.log_pairs.specs.Comparing.{Answer, first, second, refused}
-use Rattle.log_pairs.specs.Text.{low32, answerText}
+use Rattle.log_pairs.specs.Text.{answerText}
 use Rattle.report_text.specs.Decimal.{digit, decimal}
-use Rattle.report_text.specs.Text.{byteAfter, lineText, headedText, endText}
+use Rattle.report_text.specs.Text.{low32, byteAfter, lineText, headedText, endText}
 use Rattle.report_text.proofs.Decimals as decimals
 use Rattle.report_text.proofs.ReadBack.{one-line, one-number}
 use Rattle.laws_pairs.specs.Text.{Decimal, one-digit, digit-more, LineText, last-number, number-more, EndText, end-then, PartText, rest-first, rest-second, refused-then}
