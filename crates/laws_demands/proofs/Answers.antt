@@ -16,13 +16,13 @@ use Rattle.log_record.specs.Records.{Met, met, refused, end}
 use Rattle.laws_step.specs.Rows.{Among}
 use Rattle.laws_format.specs.Format.{Spells, kind-then-numbers}
 use Rattle.laws_format.specs.Unreadable.{NoNumber, cut-off, five-high, too-large, zero-last, NoRecord, no-kind, stopped}
-use Rattle.laws_format.specs.Readers.{Reader, Stands, Reads}
+use Rattle.laws_format.specs.Readers.{Reader, SpelledAt, Reads}
 use Rattle.laws_demands.specs.Product.{Step, Reporter, Walker, LogLines}
 use Rattle.laws_demands.specs.Printed.{Log, readOn, logFrom, linesBy, printedBy}
 use Rattle.laws_demands.specs.Second.{Walks}
 use Rattle.log_pairs.specs.Comparing.{Answer}
 use Rattle.laws_pairs.specs.Compared.{SideBySide, second-is-start, first-is-start, first-unreadable, second-unreadable, different}
-use Rattle.laws_demands.specs.First.{ReadAt, event, unreadable, Walked, whole, ComparedIn, rest-of-first, rest-of-second, parted}
+use Rattle.laws_demands.specs.First.{ReadAt, event, unreadable, WalkedIn, whole, ComparedIn, rest-of-first, rest-of-second, parted}
 use Rattle.laws_demands.specs.First as first
 
 -- a spelling has a byte, and an unreadable place too
@@ -40,7 +40,7 @@ one-to-four _ _ (no-kind b rest h) = ((omega arith, omega arith), omega arith)
 one-to-four _ _ (stopped n kind e all ns before left l k h none) = let w = one-to-three n left none in ((w .0, omega (arith, w .1)), omega arith)
 
 module _ (read : Reader) (keeps : Reads read) (bytes : List ℕ) (are : Bytes bytes) where
-  within : (at : ℕ) (e : Event) (next : ℕ) → Stands bytes at e next → (at < next) × (next ≤ length bytes)
+  within : (at : ℕ) (e : Event) (next : ℕ) → SpelledAt bytes at e next → (at < next) × (next ≤ length bytes)
   within at e next s =
       let some = some-byte e (s .spelling) (s .spells) in
       let long = ap length (s .start) in
@@ -81,7 +81,7 @@ unfolding linesBy
 lines-count step report [] m number = refl
 lines-count step report (e ∷ es) m number = ap suc (lines-count step report es (step m e .model) (suc number))
 
-pub walk-answers : (step : Step) (report : Reporter) (read : Reader) → Reads read → (bytes : List ℕ) → Bytes bytes → Walked bytes (printedBy step report read bytes)
+pub walk-answers : (step : Step) (report : Reporter) (read : Reader) → Reads read → (bytes : List ℕ) → Bytes bytes → WalkedIn bytes (printedBy step report read bytes)
 unfolding printedBy
 walk-answers step report read keeps bytes are = by (ended read keeps bytes are (suc (length bytes)) 0 (omega arith) (omega arith))
   where
@@ -91,17 +91,17 @@ walk-answers step report read keeps bytes are = by (ended read keeps bytes are (
     count : length (log .events) ≡ length (linesBy step report Off 0 (log .events))
     count = sym (lines-count step report (log .events) Off 0)
 
-    by : Ended read keeps bytes are log → Walked bytes (printedBy step report read bytes)
+    by : Ended read keeps bytes are log → WalkedIn bytes (printedBy step report read bytes)
     by (inl h) = whole (λ i. count i ∷ h .0 i ∷ h .1 i ∷ [])
     by (inr h) = first.stopped (log .code) (log .offset) (h .0) (h .1) (λ i. count i ∷ log .code ∷ log .offset ∷ [])
 
-pub walked : (step : Step) (report : Reporter) (read : Reader) (walk : Walker) → Walks step report read walk → Reads read → (bytes : List ℕ) → Bytes bytes → Walked bytes (walk bytes)
+pub walked : (step : Step) (report : Reporter) (read : Reader) (walk : Walker) → Walks step report read walk → Reads read → (bytes : List ℕ) → Bytes bytes → WalkedIn bytes (walk bytes)
 walked step report read walk by keeps bytes are = go (ltb 65536 (length bytes)) refl
   where
-    go : (t : Bool) → ltb 65536 (length bytes) ≡ t → Walked bytes (walk bytes)
+    go : (t : Bool) → ltb 65536 (length bytes) ≡ t → WalkedIn bytes (walk bytes)
     go true e = let long = ltb-true 65536 (length bytes) e in first.too-long long (by .stops bytes long)
     go false e =
-        subst (λ (w : LogLines). Walked bytes w) (sym (by .walks bytes are (ltb-false 65536 (length bytes) e))) (walk-answers step report read keeps bytes are)
+        subst (λ (w : LogLines). WalkedIn bytes w) (sym (by .walks bytes are (ltb-false 65536 (length bytes) e))) (walk-answers step report read keeps bytes are)
 
 -- two logs by what they come to: a rest starts within its log, and where they part both go on
 within-first : (start rest : List ℕ) → length start ≤ length (start ++ rest)

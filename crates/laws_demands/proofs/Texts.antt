@@ -14,7 +14,7 @@ use Rattle.step_event.specs.declared.walking.Walk.{Walk}
 use Rattle.step_text.specs.Runs.{runText}
 use Rattle.laws_pairs.proofs.Texts.{our-texts}
 use Rattle.laws_demands.specs.Product.{LogLines}
-use Rattle.laws_demands.specs.Printed.{tooLong, lineNumbers, RunText, last-line, line-then}
+use Rattle.laws_demands.specs.Printed.{refusedRun, lineNumbers, RunText, last-line, line-then}
 use Rattle.laws_demands.specs.Ours.{ourWalk}
 
 -- lines and a last line of three numbers
@@ -41,7 +41,7 @@ three ls w end = run-text ls (w .number) 0 (w .place)
 three ls w (unreadable number place) = run-text ls (w .number) number place
 
 abbrev walkBy : List ℕ → Bool → LogLines
-walkBy bytes long = pick long tooLong (record { lines = wholeOf bytes .lines; last = endOf bytes })
+walkBy bytes long = pick long refusedRun (record { lines = wholeOf bytes .lines; last = endOf bytes })
 
 by-length : (bytes : List ℕ) (long : Bool)
     → RunText (walkBy bytes long .lines) (walkBy bytes long .last) (pick long (endText (0 ∷ 13 ∷ 0 ∷ [])) (linesText (wholeOf bytes .lines) ++ endText (endOf bytes)))

@@ -35,10 +35,10 @@ pub data WrittenIn (buffer : List ℕ) : Wrote × List ℕ → Type 0 where
   no-room : WrittenIn buffer (refused 12 0, buffer)
 
 -- a whole log: read to its end or to a record of it that can't be read, with a line for each record before; or 13 and no line
-pub data Walked (bytes : List ℕ) (w : LogLines) : Type 0 where
-  whole : w .last ≡ length (w .lines) ∷ 0 ∷ length bytes ∷ [] → Walked bytes w
-  stopped : (n at : ℕ) → Among n 1 4 → at < length bytes → w .last ≡ length (w .lines) ∷ n ∷ at ∷ [] → Walked bytes w
-  too-long : 65536 < length bytes → w ≡ record { lines = []; last = 0 ∷ 13 ∷ 0 ∷ [] } → Walked bytes w
+pub data WalkedIn (bytes : List ℕ) (w : LogLines) : Type 0 where
+  whole : w .last ≡ length (w .lines) ∷ 0 ∷ length bytes ∷ [] → WalkedIn bytes w
+  stopped : (n at : ℕ) → Among n 1 4 → at < length bytes → w .last ≡ length (w .lines) ∷ n ∷ at ∷ [] → WalkedIn bytes w
+  too-long : 65536 < length bytes → w ≡ record { lines = []; last = 0 ∷ 13 ∷ 0 ∷ [] } → WalkedIn bytes w
 
 -- two logs: the rest of one from a place in it, or a number with a record's number and a place at which both go on
 pub data ComparedIn (a b : List ℕ) : Answer → Type 0 where
@@ -51,7 +51,7 @@ pub record FirstDemand (p : Product) : Type 0 where
   pub steps : (m : Model) (e : Event) → Answered m (p .step m e)
   pub reads : (bytes : List ℕ) → Bytes bytes → (at : ℕ) → ReadAt bytes at (p .read bytes at)
   pub writes : (e : Event) (buffer : List ℕ) → WrittenIn buffer (p .write e buffer)
-  pub walks : (bytes : List ℕ) → Bytes bytes → Walked bytes (p .walk bytes)
+  pub walks : (bytes : List ℕ) → Bytes bytes → WalkedIn bytes (p .walk bytes)
   pub compares : (a b : List ℕ) → Bytes a → Bytes b → ComparedIn a b (p .compare a b)
   -- the calls for C: a refusal leaves every lent byte as it was, and every lent part stays as long as it was
   pub leaves : RefusalLeaves (p .calls)

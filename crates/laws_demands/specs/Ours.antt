@@ -17,13 +17,13 @@ use Rattle.step_text.specs.Runs.{runText}
 use Rattle.laws_format.specs.Ours.{ourRead, ourWrite}
 use Rattle.laws_pairs.specs.Ours.{ourCompare}
 use Rattle.laws_demands.specs.Product.{Walker, Product}
-use Rattle.laws_demands.specs.Printed.{tooLong}
+use Rattle.laws_demands.specs.Printed.{refusedRun}
 use Rattle.laws_demands.specs.First.{FirstDemand}
 use Rattle.laws_demands.specs.Second.{SecondDemand}
 use Rattle.laws_demands.specs.Third.{ThirdDemand}
 
 abbrev pub ourWalk : Walker
-ourWalk bytes = pick (ltb 65536 (length bytes)) tooLong (record { lines = wholeOf bytes .lines; last = endOf bytes })
+ourWalk bytes = pick (ltb 65536 (length bytes)) refusedRun (record { lines = wholeOf bytes .lines; last = endOf bytes })
 
 abbrev pub ourPartlog : List ℕ → List ℕ → List ℕ
 ourPartlog a b = answerText (inputsOf kinds a b)

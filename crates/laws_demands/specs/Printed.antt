@@ -83,8 +83,8 @@ printedBy step report read bytes =
     record { lines = linesBy step report Off 0 (log .events); last = length (log .events) ∷ log .code ∷ log .offset ∷ [] }
 
 -- 13: "program input above 65,536 bytes": "it prints only `end 0 13 0`"
-abbrev pub tooLong : LogLines
-tooLong = record { lines = []; last = 0 ∷ 13 ∷ 0 ∷ [] }
+abbrev pub refusedRun : LogLines
+refusedRun = record { lines = []; last = 0 ∷ 13 ∷ 0 ∷ [] }
 
 abbrev pub lineNumbers : Line → List ℕ
 lineNumbers l = l .number ∷ l .kind ∷ l .answer ∷ l .phase ∷ l .current ∷ l .voltage ∷ l .limit ∷ l .pulse ∷ l .flags ∷ []

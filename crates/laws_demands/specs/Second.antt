@@ -27,7 +27,7 @@ use Rattle.laws_format.specs.Readers.{Reader, Reads, Writes}
 use Rattle.laws_pairs.specs.Compared.{Compares}
 use Rattle.laws_pairs.specs.Files.{Printed}
 use Rattle.laws_demands.specs.Product.{Step, Reporter, Walker, Product}
-use Rattle.laws_demands.specs.Printed.{printedBy, tooLong, RunText}
+use Rattle.laws_demands.specs.Printed.{printedBy, refusedRun, RunText}
 
 -- "Each accepted event moves the model as document 01 says"
 pub record Moves (step : Step) : Type 0 where
@@ -56,7 +56,7 @@ pub record Registers (register : Model → ℕ → Told ℕ) : Type 0 where
 -- a run of a log: what the step, the report and the reader make of it; 13 above 65,536 bytes
 pub record Walks (step : Step) (report : Reporter) (read : Reader) (walk : Walker) : Type 0 where
   pub walks : (bytes : List ℕ) → Bytes bytes → length bytes ≤ 65536 → walk bytes ≡ printedBy step report read bytes
-  pub stops : (bytes : List ℕ) → 65536 < length bytes → walk bytes ≡ tooLong
+  pub stops : (bytes : List ℕ) → 65536 < length bytes → walk bytes ≡ refusedRun
 
 pub record SecondDemand (p : Product) : Type 0 where
   pub moves : Moves (p .step)

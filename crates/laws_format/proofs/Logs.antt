@@ -9,7 +9,7 @@ use Rattle.log_event.specs.Kinds.{kinds}
 use Rattle.log_event.specs.declared.Event.{Event}
 use Rattle.log_record.specs.Records.{met, readRecord}
 use Rattle.log_record.proofs.RecordLaws.{reads-back}
-use Rattle.laws_format.specs.Format.{Spells, kind-then-numbers, SpellsAll, no-events, event-then, OneSpellingOfAll}
+use Rattle.laws_format.specs.Format.{Spells, kind-then-numbers, SpellsAll, no-events, event-then, AllSpelledOnce}
 use Rattle.laws_format.proofs.Formats.{spells-are}
 
 pub some-bytes : {e : Event} {spelling : List ℕ} → Spells e spelling → (rest : List ℕ) → 0 < length (spelling ++ rest)
@@ -34,7 +34,7 @@ all-apart (event-then e es s a p so) (event-then f fs t b q to) h =
     let others = all-apart so to rest in
     cc
 
-pub one-spelling-of-all : OneSpellingOfAll
+pub one-spelling-of-all : AllSpelledOnce
 one-spelling-of-all = record {
   one = λ es a b p q. all-one p q;
   apart = λ es fs a p q. all-apart p q refl;

@@ -23,7 +23,7 @@ use Rattle.c_words.specs.Promises.{AllWords}
 use Rattle.c_words.proofs.WordLaws.{length-words}
 use Rattle.laws_images.proofs.Loading.{all-words}
 use Rattle.laws_format.specs.Format.{Listed, AllSmall}
-use Rattle.laws_format.specs.Ours.{Answer, event, unreadable, over}
+use Rattle.laws_format.specs.Ours.{AnswerAt, event, unreadable, over}
 use Rattle.laws_format.proofs.Formats.{listed}
 use Rattle.laws_format.proofs.RecordsRefused.{missed, none-between}
 use Rattle.laws_format.proofs.Only.{ahead, one-answer}
@@ -100,7 +100,7 @@ module _ (log : List ℕ) (bs : Bytes log) where
   some-play : (place room : ℕ) → (new : List Event) × PlayGives log place room new
   some-play place room = go (decLt room shownBytes) (one-answer .some log bs place .1)
     where
-      go : {x : Met} → Dec (room < shownBytes) → Answer log place x → (new : List Event) × PlayGives log place room new
+      go : {x : Met} → Dec (room < shownBytes) → AnswerAt log place x → (new : List Event) × PlayGives log place room new
       go (yes short) a = ([], no-room-shown short)
       go (no enough) (event e next k) = (e ∷ [], played e next k (omega arith))
       go (no enough) (unreadable n row) = ([], no-record (gives.unreadable n row))
@@ -110,7 +110,7 @@ module _ (log : List ℕ) (bs : Bytes log) where
   some-replay zero place h = ([], stops place (at-end (omega arith)))
   some-replay (suc most) place h = go (one-answer .some log bs place .1) (some-replay most)
     where
-      go : {x : Met} → Answer log place x → ((next : ℕ) → length log ≤ next + most → (new : List Event) × ReplayGives log next new) → (new : List Event) × ReplayGives log place new
+      go : {x : Met} → AnswerAt log place x → ((next : ℕ) → length log ≤ next + most → (new : List Event) × ReplayGives log next new) → (new : List Event) × ReplayGives log place new
       go (event e next k) more = let rest = more next (omega (arith, ahead k, h)) in (e ∷ rest .0, goes-on place e next (rest .0) k (rest .1))
       go (unreadable n row) more = ([], stops place (gives.unreadable n row))
       go (over late) more = ([], stops place (at-end late))

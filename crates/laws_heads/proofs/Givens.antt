@@ -23,7 +23,7 @@ use Rattle.c_words.specs.Words.{bytesOf}
 use Rattle.c_event.specs.Given.{givenOf}
 use Rattle.c_event.proofs.Answers.{every-given}
 use Rattle.laws_format.specs.Format.{Listed, AllSmall}
-use Rattle.laws_format.specs.Readers.{Stands}
+use Rattle.laws_format.specs.Readers.{SpelledAt}
 use Rattle.laws_format.specs.Ours.{ourRead}
 use Rattle.laws_format.proofs.Formats.{listed-is}
 use Rattle.laws_format.proofs.RecordsRefused.{no-row, count-of}
@@ -69,7 +69,7 @@ event-is kind words room (no-kind out) = rw (unknown kind words out, same-none (
 event-is kind words room (not-as-many e ns l other) = rw (not-given l words other, same-none (ltb room shownBytes))
 
 -- ---- a log
-pub met-there : {log : List ℕ} {place : ℕ} {e : Event} {next : ℕ} → Stands log place e next → recordAt kinds log place ≡ met e next
+pub met-there : {log : List ℕ} {place : ℕ} {e : Event} {next : ℕ} → SpelledAt log place e next → recordAt kinds log place ≡ met e next
 met-there {log} {place} {e} {next} k = stands ourRead our-reads log place e next k
 
 abbrev pub readList : log.Met → List Event

@@ -18,7 +18,7 @@ use Rattle.c_calls.specs.Landing.{Left, Both, both, answered, readyOf}
 use Rattle.c_calls.specs.Playing.{eventCallOf}
 use Rattle.c_calls.specs.Promises.{Calls, RefusalLeaves}
 use Rattle.c_calls.specs.declared.answer.Answer.{Answer}
-use Rattle.laws_format.specs.Readers.{Stands}
+use Rattle.laws_format.specs.Readers.{SpelledAt}
 use Rattle.laws_format.proofs.Examples.{paper-bytes}
 use Rattle.laws_account.specs.History.{Run}
 use Rattle.laws_account.specs.Refused.{none, some, nextOf, pastOf}
@@ -47,7 +47,7 @@ low-bytes (b ∷ s) h (suc i) = low-bytes s (h .1) i
 bytes-there : Bytes first
 bytes-there = low-bytes first (search needs)
 
-stands-there : Stands first 0 power 16
+stands-there : SpelledAt first 0 power 16
 stands-there = record { spelling = first; spells = paper-bytes .powerOn; long = refl; start = refl }
 
 left-none : pastOf none [] ≡ none

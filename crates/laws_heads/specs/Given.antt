@@ -9,7 +9,7 @@ use Rattle.log_event.specs.declared.Event.{Event}
 use Rattle.c_words.specs.Words.{bytesOf}
 use Rattle.laws_format.specs.Format.{Listed, AllSmall}
 use Rattle.laws_format.specs.Unreadable.{LogRow}
-use Rattle.laws_format.specs.Readers.{Stands}
+use Rattle.laws_format.specs.Readers.{SpelledAt}
 
 -- CHEUKDANE_SHOWN: "Bytes of what an accepted event shows"
 abbrev pub shownBytes : ℕ
@@ -32,14 +32,14 @@ pub data NoRecordAt (log : List ℕ) (place : ℕ) : Type 0 where
 
 -- cheukdane_play: "Plays the record at a place of a log."
 pub data PlayGives (log : List ℕ) (place room : ℕ) : List Event → Type 0 where
-  played : (e : Event) (next : ℕ) → Stands log place e next → shownBytes ≤ room → PlayGives log place room (e ∷ [])
+  played : (e : Event) (next : ℕ) → SpelledAt log place e next → shownBytes ≤ room → PlayGives log place room (e ∷ [])
   no-room-shown : room < shownBytes → PlayGives log place room []
   no-record : NoRecordAt log place → PlayGives log place room []
 
 -- cheukdane_replay: "Plays every record of a log from a place on, to the log's end or to one that can't be read"
 pub data ReplayGives (log : List ℕ) : ℕ → List Event → Type 0 where
   stops : (place : ℕ) → NoRecordAt log place → ReplayGives log place []
-  goes-on : (place : ℕ) (e : Event) (next : ℕ) (es : List Event) → Stands log place e next → ReplayGives log next es → ReplayGives log place (e ∷ es)
+  goes-on : (place : ℕ) (e : Event) (next : ℕ) (es : List Event) → SpelledAt log place e next → ReplayGives log next es → ReplayGives log place (e ∷ es)
 
 -- bytes that are lent give one list of events, and one alone
 abbrev pub OneList : (List Event → Type 0) → Type 0

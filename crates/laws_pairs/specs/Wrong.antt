@@ -17,22 +17,22 @@ restRead number (met e next) answer = answer
 restRead number (log.refused n place) answer = refused n number place
 restRead number end answer = answer
 
-abbrev pub restOf : ℕ → List ℕ → List ℕ → Answer → Answer
-restOf number a b (first at) = restRead number (recordAt kinds a at) (first at)
-restOf number a b (second at) = restRead number (recordAt kinds b at) (second at)
-restOf number a b (refused n k place) = refused n k place
+abbrev pub answerOn : ℕ → List ℕ → List ℕ → Answer → Answer
+answerOn number a b (first at) = restRead number (recordAt kinds a at) (first at)
+answerOn number a b (second at) = restRead number (recordAt kinds b at) (second at)
+answerOn number a b (refused n k place) = refused n k place
 
 abbrev pub readsOn : ℕ → Comparer
-readsOn number a b = restOf number a b (ourCompare a b)
+readsOn number a b = answerOn number a b (ourCompare a b)
 
 -- the second log's refusal before the first's
-abbrev pub refusalOf : Answer → Answer → Answer
-refusalOf (first at) other = first at
-refusalOf (second at) other = second at
-refusalOf (refused n number place) other = other
+abbrev pub refusalFirst : Answer → Answer → Answer
+refusalFirst (first at) other = first at
+refusalFirst (second at) other = second at
+refusalFirst (refused n number place) other = other
 
 abbrev pub secondBeforeFirst : Comparer
-secondBeforeFirst a b = refusalOf (ourCompare a b) (ourCompare b a)
+secondBeforeFirst a b = refusalFirst (ourCompare a b) (ourCompare b a)
 
 -- counts records from 0
 abbrev pub oneLess : Answer → Answer
