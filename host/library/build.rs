@@ -1,4 +1,5 @@
-//! Links libcheukdane.a from the folder CHEUKDANE_LIB, or else from the project's target/host.
+//! Links libcheukdane.a from the folder CHEUKDANE_LIB, or else from the project's target/host. In a folder that has
+//! libcheukdane.so instead, that is linked, and looked for again when a test runs: so another may stand there then.
 
 use std::env;
 use std::path::{Path, PathBuf};
@@ -6,9 +7,12 @@ use std::path::{Path, PathBuf};
 fn main() {
     println!("cargo:rerun-if-env-changed=CHEUKDANE_LIB");
     let folder = folder();
-    println!("cargo:rerun-if-changed={}", folder.join("libcheukdane.a").display());
+    let shared = folder.join("libcheukdane.so").exists();
+    let (kind, file) =
+        if shared { ("dylib", "libcheukdane.so") } else { ("static", "libcheukdane.a") };
+    println!("cargo:rerun-if-changed={}", folder.join(file).display());
     println!("cargo:rustc-link-search=native={}", folder.display());
-    println!("cargo:rustc-link-lib=static=cheukdane");
+    println!("cargo:rustc-link-lib={kind}=cheukdane");
 }
 
 fn folder() -> PathBuf {
