@@ -16,7 +16,7 @@ run: runlog
 test:
 	@scripts/test
 
-# The must-fail edits that are too dear for `make test`: a quarter of an hour.
+# What is too dear for `make test`: see scripts/deep.
 deep:
 	@scripts/deep
 
