@@ -18,9 +18,3 @@ impl Tally {
         assert_eq!(met, numbers.into_iter().collect(), "the answers met: {:?}", self.0);
     }
 }
-
-/// How many rounds to run: `rounds`, times CHEUKDANE_TIMES for longer runs.
-pub fn times(rounds: u64) -> u64 {
-    let told = std::env::var("CHEUKDANE_TIMES").unwrap_or_else(|_| "1".to_string());
-    rounds * told.parse::<u64>().expect("CHEUKDANE_TIMES is a number")
-}

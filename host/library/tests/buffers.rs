@@ -4,9 +4,9 @@
 use library::both;
 use library::image::{self, Held, Powered};
 use library::layout::{bytes_of, IMAGE, RECORD, REPORT, SHOWN};
-use library::tally::{times, Tally};
+use library::tally::Tally;
 use reference::event::Profile;
-use reference::generate::{any_event, any_state, Rng};
+use reference::generate::{any_event, any_state, times, Rng};
 use reference::record::{encode, numbers_of};
 use reference::{Event, Sample};
 

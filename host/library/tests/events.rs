@@ -3,8 +3,8 @@
 use library::both;
 use library::image::{self, Held, Powered};
 use library::layout::{bytes_of, IMAGE, SHOWN};
-use library::tally::{times, Tally};
-use reference::generate::{any_event, any_state, plausible_events, Rng};
+use library::tally::Tally;
+use reference::generate::{any_event, any_state, plausible_events, times, Rng};
 use reference::record::{encode, numbers_of};
 use reference::Event;
 

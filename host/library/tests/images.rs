@@ -4,8 +4,8 @@
 use library::both;
 use library::image::{self, Held, Powered};
 use library::layout::{BAND, FORMAT, IMAGE, IMAGE_WORDS, REPORT, SHOWN, WORD};
-use library::tally::{times, Tally};
-use reference::generate::{any_event, any_state, plausible_events, spoiled_state, Rng};
+use library::tally::Tally;
+use reference::generate::{any_event, any_state, plausible_events, spoiled_state, times, Rng};
 use reference::record::encode;
 use reference::{Event, Model};
 

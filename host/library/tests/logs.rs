@@ -4,9 +4,9 @@
 use library::both;
 use library::image::{self, Held, Powered};
 use library::layout::{IMAGE, REPORT, SHOWN};
-use library::tally::{times, Tally};
+use library::tally::Tally;
 use reference::generate::{
-    any_event, any_log, any_state, damaged_log, plausible_log, spoiled_state, Rng,
+    any_event, any_log, any_state, damaged_log, plausible_log, spoiled_state, times, Rng,
 };
 use reference::record::{self, Reading};
 use reference::{Event, Sample};

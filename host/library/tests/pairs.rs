@@ -1,8 +1,8 @@
 //! Two logs side by side.
 
 use library::both;
-use library::tally::{times, Tally};
-use reference::generate::{any_log, damaged_log, log_pair, plausible_log, Rng};
+use library::tally::Tally;
+use reference::generate::{any_log, damaged_log, log_pair, plausible_log, times, Rng};
 
 #[test]
 fn generated_pairs() {

@@ -5,8 +5,10 @@ use library::answers::Replayed;
 use library::both;
 use library::image::{self, Held, Powered};
 use library::layout::{IMAGE, SHOWN};
-use library::tally::{times, Tally};
-use reference::generate::{any_log, any_state, damaged_log, plausible_log, spoiled_state, Rng};
+use library::tally::Tally;
+use reference::generate::{
+    any_log, any_state, damaged_log, plausible_log, spoiled_state, times, Rng,
+};
 
 /// Replays a log from a place on.
 fn replayed(image: &[u8], log: &[u8], place: usize) -> (Replayed, Vec<u8>) {

@@ -4,7 +4,7 @@ use std::collections::BTreeSet;
 
 use reference::generate::{
     any_event, any_log, any_state, damaged_log, events_of, log_pair, plausible_events,
-    plausible_log, spoiled_state, Rng,
+    plausible_log, spoiled_state, times, Rng,
 };
 use reference::part::{part, Answer, Which};
 use reference::registers;
@@ -46,7 +46,7 @@ fn check_settled(state: &State) {
 
 #[test]
 fn runs_stay_within_what_a_model_may_hold() {
-    for seed in 0..SEEDS {
+    for seed in 0..times(SEEDS) {
         let mut model = Model::Off;
         for event in plausible_events(seed, RECORDS) {
             model = check(&model, &event).model;
@@ -60,7 +60,7 @@ fn runs_stay_within_what_a_model_may_hold() {
 #[test]
 fn an_accepted_event_on_any_model_that_passes_makes_one_that_passes() {
     let mut rng = Rng::new(1);
-    for _ in 0..40_000 {
+    for _ in 0..times(40_000) {
         let state = any_state(&mut rng);
         let model = Model::On(state);
         assert!(may_hold(&model), "{state:?}");
@@ -75,7 +75,7 @@ fn an_accepted_event_on_any_model_that_passes_makes_one_that_passes() {
 #[test]
 fn an_event_on_a_model_that_does_not_pass_is_5() {
     let mut rng = Rng::new(2);
-    for _ in 0..20_000 {
+    for _ in 0..times(20_000) {
         let model = Model::On(spoiled_state(&mut rng));
         assert!(!may_hold(&model), "{model:?}");
         let step = check(&model, &any_event(&mut rng));
@@ -95,7 +95,7 @@ fn show(model: &Model) {
 #[test]
 fn records_read_back() {
     let mut rng = Rng::new(3);
-    for _ in 0..20_000 {
+    for _ in 0..times(20_000) {
         let event = any_event(&mut rng);
         let bytes = record::encode(&event);
         assert_eq!(record::read(&bytes, 0), Reading::Record { event, next: bytes.len() });
@@ -113,7 +113,7 @@ fn records_read_back() {
 
 #[test]
 fn what_is_read_from_any_bytes_is_written_the_same() {
-    for seed in 0..SEEDS {
+    for seed in 0..times(SEEDS) {
         let log = damaged_log(seed, RECORDS);
         let read: Vec<u8> = events_of(&log).iter().flat_map(record::encode).collect();
         assert!(log.starts_with(&read));
@@ -173,7 +173,7 @@ impl Seen {
 #[test]
 fn plausible_logs_reach_every_part_of_the_model() {
     let mut seen = Seen::default();
-    for seed in 0..SEEDS {
+    for seed in 0..times(SEEDS) {
         seen.run(&plausible_log(seed, RECORDS));
     }
     assert_eq!(seen.phases.len(), 8);
@@ -206,7 +206,7 @@ fn plausible_logs_reach_every_part_of_the_model() {
 #[test]
 fn damaged_logs_reach_every_refusal_of_the_reader() {
     let mut codes = BTreeSet::new();
-    for seed in 0..SEEDS {
+    for seed in 0..times(SEEDS) {
         let log = damaged_log(seed, RECORDS);
         let printed = runlog(&log);
         let last = printed.lines().last().expect("a last line");
@@ -222,7 +222,7 @@ fn damaged_logs_reach_every_refusal_of_the_reader() {
 
 #[test]
 fn any_logs_run() {
-    for seed in 0..SEEDS {
+    for seed in 0..times(SEEDS) {
         let log = any_log(seed, RECORDS);
         assert!(runlog(&log).ends_with(&format!("end {RECORDS} 0 {}\n", log.len())));
     }
@@ -232,7 +232,7 @@ fn any_logs_run() {
 fn pairs_reach_every_answer() {
     let mut codes = BTreeSet::new();
     let mut sides = [false; 3];
-    for seed in 0..SEEDS {
+    for seed in 0..times(SEEDS) {
         let (first, second) = log_pair(seed, 20);
         let parting = part(&first, &second);
         match parting.answer {

@@ -28,6 +28,12 @@ use walk::Walk;
 const MOST_MV: u32 = 45_000;
 const MOST_TS: u32 = 100_000;
 
+/// How many rounds to run: `rounds`, times CHEUKDANE_TIMES for longer runs.
+pub fn times(rounds: u64) -> u64 {
+    let told = std::env::var("CHEUKDANE_TIMES").unwrap_or_else(|_| "1".to_string());
+    rounds * told.parse::<u64>().expect("CHEUKDANE_TIMES is a number")
+}
+
 /// A plausible log of about `records` records.
 pub fn plausible_log(seed: u64, records: usize) -> Vec<u8> {
     spelled(&plausible_events(seed, records))
