@@ -57,6 +57,18 @@ fn reports_at_every_length() {
     tally.met_exactly([0, 6, 12]);
 }
 
+/// Longer than 16 bits can count.
+#[test]
+fn long_buffers() {
+    let mut rng = Rng::new(22);
+    let bytes = any_image(&mut rng);
+    let length = 1 << 16;
+    assert_eq!(both::play(&mut bytes.clone(), &[4], 0, &mut buffer(length)).number, 0);
+    assert_eq!(both::event(&mut bytes.clone(), 4, &[], &mut buffer(length)).number, 0);
+    assert_eq!(both::report(&bytes, &mut buffer(length)).number, 0);
+    assert_eq!(both::write(4, &[], &mut buffer(length)).number, 0);
+}
+
 /// "5 before all else; then an answer buffer that is too short is 12; then
 /// what the call is about is judged."
 #[test]

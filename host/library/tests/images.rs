@@ -61,8 +61,8 @@ fn word(bytes: &[u8], index: usize) -> u32 {
 fn bytes_of_every_length() {
     let image = image::of(&Held::On(run(1, 40)));
     let mut longer = image.clone();
-    longer.resize(301, 0);
-    for length in (0..=300).filter(|length| *length != IMAGE) {
+    longer.resize((1 << 16) + IMAGE, 0);
+    for length in (0..=300).filter(|length| *length != IMAGE).chain([longer.len()]) {
         for bytes in [&longer[..length], &vec![0; length]] {
             assert_eq!(lend(bytes, &Event::TakeFlags), [5; 4], "{length}");
             assert_eq!(both::off(&mut bytes.to_vec()).number, 5);

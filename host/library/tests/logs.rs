@@ -173,7 +173,8 @@ fn every_place_of_a_log() {
 fn the_end_and_past_it() {
     let log = plausible_log(1, 10);
     let mut image = vec![0; IMAGE];
-    for place in (log.len()..log.len() + 20).chain([usize::MAX - 1, usize::MAX]) {
+    let far = [1 << 16, 1 << 32, usize::MAX - 1, usize::MAX];
+    for place in (log.len()..log.len() + 20).chain(far) {
         let played = both::play(&mut image, &log, place, &mut [0xEE; SHOWN]);
         assert_eq!((played.number, played.kind, played.next), (0, 0, place as u64));
         both::play(&mut image, &[], place, &mut [0xEE; SHOWN]);

@@ -104,12 +104,13 @@ fn empty_logs() {
     assert_eq!(both::compare(&[], &[0xFF]).number, 0, "the rest isn't read");
 }
 
-/// A long pair that parts at its last record.
+/// A long pair that parts at its last record, past what 16 bits can count.
 #[test]
 fn long_logs_that_part_at_the_end() {
-    let log = plausible_log(3, 5_000);
+    let log = plausible_log(3, 10_000);
+    assert!(log.len() > 1 << 16);
     let one = [log.as_slice(), &[6]].concat();
     let other = [log.as_slice(), &[7]].concat();
     let answer = both::compare(&one, &other);
-    assert_eq!((answer.number, answer.record, answer.place), (14, 5_001, log.len() as u64));
+    assert_eq!((answer.number, answer.record, answer.place), (14, 10_001, log.len() as u64));
 }

@@ -59,6 +59,14 @@ fn long_logs() {
     replay_all(logs).met_exactly([0]);
 }
 
+/// Longer than 16 bits can count.
+#[test]
+fn a_log_above_65536_bytes() {
+    let log = plausible_log(1, 10_000);
+    assert!(log.len() > 1 << 16);
+    replay_all([log].into_iter()).met_exactly([0]);
+}
+
 #[test]
 fn damaged_logs() {
     let logs = (0..times(40_000)).map(|seed| damaged_log(seed + 2_000_000, 40));
@@ -93,7 +101,8 @@ fn every_place_on_any_model() {
 #[test]
 fn the_end_and_past_it() {
     let log = plausible_log(1, 40);
-    for place in (log.len()..log.len() + 20).chain([usize::MAX - 1, usize::MAX]) {
+    let far = [1 << 16, 1 << 32, usize::MAX - 1, usize::MAX];
+    for place in (log.len()..log.len() + 20).chain(far) {
         for log in [&log[..], &[]] {
             let (answer, image) = replayed(&[0; IMAGE], log, place);
             assert_eq!(answer, Replayed { number: 0, code: 0, records: 0, place: place as u64 });
