@@ -83,8 +83,8 @@ mod tests {
     use super::*;
     use library::calls;
     use library::image::{self, band_number};
-    use library::tally::{times, Tally};
-    use reference::generate::{any_log, damaged_log, plausible_log};
+    use library::tally::Tally;
+    use reference::generate::{any_log, damaged_log, plausible_log, times};
 
     /// What `play` answers and leaves, if that is what the library does.
     fn agreed(image: &mut [u8], log: &[u8], place: usize, room: usize) -> Played {
