@@ -17,3 +17,4 @@ mod Stepping
 pub mod Agreeing
 pub mod Logging
 pub mod Looking
+pub mod Reports

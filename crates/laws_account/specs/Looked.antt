@@ -1,4 +1,4 @@
--- The account, what looking at the model shows and doesn't change: STAT, and a register's byte.
+-- The account, what looking at the model shows and doesn't change: the report, STAT, and a register's byte.
 use Prim.Native.Nat.{ℕ, _+_, _*_}
 use mathlib.Core.Path.{_≡_}
 use mathlib.Core.Bool.{_&&_}
@@ -7,12 +7,14 @@ use Rattle.base.specs.Pick.{pick, bitOf}
 use Rattle.base.specs.Told.{Told, accepted, refused}
 use Rattle.report_state.specs.declared.answer.Stat.{Stat}
 use Rattle.report_state.specs.declared.answer.Stat.the-variants.{Low, Blinking, High}
+use Rattle.report_state.specs.Report.{reportOf}
 use Rattle.report_state.specs.Stats.{statOf}
 use Rattle.state_registers.specs.Reads.{readRegisterOf}
 use Rattle.laws_account.specs.History.{Run}
 use Rattle.laws_account.specs.Held.{profileOf, vchg, cell, ichg, overridden, cellsOf, byteOf}
 use Rattle.laws_account.specs.Valued.{enabled}
 use Rattle.laws_account.specs.Cycles.{numberAt, phaseAt}
+use Rattle.laws_account.specs.Reported.{reportAt}
 use Rattle.laws_account.specs.Refused.{Past, none, some}
 use Rattle.laws_account.specs.States.{stateOf, modelOf}
 use Rattle.laws_account.specs.Runs.{Lawful}
@@ -36,6 +38,9 @@ registerAt none address = refused 6
 registerAt (some r) address = pick (leb 0x15 address && leb address 0x1C) (accepted (shownAt address r)) (refused 10)
 
 -- after every history the model shows what the account says
+abbrev pub ReportIsModel : Type 0
+ReportIsModel = (r : Run) → reportOf (stateOf r) ≡ reportAt r
+
 abbrev pub StatIsModel : Type 0
 StatIsModel = (r : Run) → statOf (stateOf r) ≡ statAt r
 

@@ -19,7 +19,7 @@ use Rattle.laws_third.specs.Demand.{ranBy, ThirdOfLists}
 use Rattle.laws_third.proofs.Third.{ran-is, third-of-lists}
 use Rattle.laws_demands.specs.Product.{Step, Reporter}
 use Rattle.laws_demands.specs.Second.{Moves, Reports}
-use Rattle.laws_demands.proofs.Reports.{reports-are}
+use Rattle.laws_account.proofs.Reports.{report-is-model}
 
 -- this product after a list of events
 abbrev pub after : List Event → Model
@@ -42,7 +42,7 @@ currentBy report (On s) = report s .current
 -- and so does a report
 report-as : (report : Reporter) → Reports report → (h : Past) → Lawful h → currentBy report (modelOf h) ≡ currentBy reportOf (modelOf h)
 report-as report d none l = refl
-report-as report d (some r) l = ap (λ (q : Report). q .current) (d .reports r l ∙ sym (reports-are r))
+report-as report d (some r) l = ap (λ (q : Report). q .current) (d .reports r l ∙ sym (report-is-model r))
 
 pub shown-as-ours : (report : Reporter) → Reports report → (es : List Event) → currentBy report (after es) ≡ currentBy reportOf (after es)
 shown-as-ours report d es =

@@ -6,16 +6,17 @@ use Rattle.laws_account.proofs.Looking.{stat-is-model, register-is-model}
 use Rattle.laws_format.proofs.Keeping.{our-reads, our-writes}
 use Rattle.laws_pairs.proofs.Comparing.{our-compares}
 use Rattle.laws_pairs.proofs.Printing.{our-printed}
+use Rattle.laws_heads.proofs.Second.{second-of-images}
 use Rattle.laws_demands.specs.Ours.{ourPartlog, SecondHolds}
 use Rattle.laws_demands.proofs.Places.{plays-at}
 use Rattle.laws_demands.proofs.Prints.{our-walks}
 use Rattle.laws_demands.proofs.Texts.{our-text}
-use Rattle.laws_demands.proofs.Reports.{reports-are}
+use Rattle.laws_account.proofs.Reports.{report-is-model}
 
 pub second-holds : SecondHolds
 second-holds = record {
   moves = record { refuses = each-given; moves = outcome-is-step; passes = λ m ok e. refl };
-  reports = record { reports = λ r accepted. reports-are r; shows = λ s. refl };
+  reports = record { reports = λ r accepted. report-is-model r; shows = λ s. refl };
   stats = record { stats = λ r accepted. stat-is-model r; shows = λ s. refl };
   registers = record { reads = register-is-model; shows = λ m address. refl };
   reads = our-reads;
@@ -25,4 +26,5 @@ second-holds = record {
   runlog = λ bytes are. our-text bytes;
   partlog = λ a b are bes. our-printed a b are bes (ourPartlog a b) .1 refl;
   places = plays-at;
+  heads = second-of-images;
 }

@@ -1,7 +1,6 @@
 -- The laws of the crate `laws_demands`.
 mod Answers
 mod Prints
-mod Reports
 mod Logs
 mod Texts
 mod Against

@@ -26,6 +26,7 @@ use Rattle.laws_account.specs.Looked.{statAt, registerAt}
 use Rattle.laws_format.specs.Readers.{Reader, Reads, Writes}
 use Rattle.laws_pairs.specs.Compared.{Compares}
 use Rattle.laws_pairs.specs.Files.{Printed}
+use Rattle.laws_heads.specs.Second.{SecondOfImages}
 use Rattle.laws_demands.specs.Product.{Step, Reporter, Walker, Product}
 use Rattle.laws_demands.specs.Printed.{printedBy, refusedRun, RunText}
 
@@ -73,3 +74,5 @@ pub record SecondDemand (p : Product) : Type 0 where
   pub partlog : (a b : List ℕ) → Bytes a → Bytes b → Printed a b (p .partlog a b)
   -- "The place is the record's start", the model's refusals in a log included: a record that a head plays
   pub places : (image log : List ℕ) → Bytes log → (place : ℕ) (shown : List ℕ) → p .calls .play image log place shown .answer .place ≡ place
+  -- what the calls for C answer and leave of every image that they moved
+  pub heads : SecondOfImages (p .calls)

@@ -3,4 +3,5 @@ mod Givens
 pub mod Every
 pub mod Loads
 pub mod Third
+pub mod Second
 pub mod Refutes

@@ -33,7 +33,7 @@ put-words : (ns part : List ℕ) → length ns * 4 ≤ length part → put (byte
 unfolding put
 put-words ns part h = rw (length-bytes ns, le-leb (length ns * 4) (length part) h)
 
-ready : (image : List ℕ) (h : Past) (room wanted : ℕ) → modelIn image ≡ accepted (modelOf h) → wanted ≤ room → readyOf image room wanted ≡ accepted (modelOf h)
+pub ready : (image : List ℕ) (h : Past) (room wanted : ℕ) → modelIn image ≡ accepted (modelOf h) → wanted ≤ room → readyOf image room wanted ≡ accepted (modelOf h)
 unfolding readyOf
 ready image h room wanted l k = rw (l, le-ltb room wanted k)
 

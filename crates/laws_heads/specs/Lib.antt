@@ -2,4 +2,5 @@
 pub mod Given
 pub mod Moved
 pub mod Third
+pub mod Second
 pub mod Wrong

@@ -11,16 +11,17 @@ use Rattle.state_parts.specs.Numbers.{phaseNumber}
 use Rattle.state_parts.specs.declared.phase.Phase.{Phase}
 use Rattle.state_parts.specs.declared.phase.Phase.the-variants.{Idle, Trickle, Precharge, Fast, Taper, Done, Suspended, Fault}
 use Rattle.report_state.specs.Report.{trickleCurrent, currentIn, chargeClampOf, fastCurrent, inputLimitOf, reportOf}
 use Rattle.laws_account.specs.History.{Run}
 use Rattle.laws_account.specs.Held.{profileOf}
 use Rattle.laws_account.specs.Valued.{settingOf, enabled}
 use Rattle.laws_account.specs.Judged.{chargeClamp, bandAt}
 use Rattle.laws_account.specs.Cycles.{phaseAt}
 use Rattle.laws_account.proofs.Sharing.{share-is}
 use Rattle.laws_account.proofs.Judging.{voltage-is}
 use Rattle.state_parts.specs.Stages.{charging}
 use Rattle.laws_account.specs.States.{settingsAt, registersAt, stateBy, stateOf}
+use Rattle.laws_account.specs.Looked.{ReportIsModel}
 use Rattle.laws_account.specs.Reported.{fastAt, limitAt, currentAt, voltageAt, reportAt}
 
 limit-is : (external : Bool) (ohms whole part : ℕ) → pick (not external) whole (pick (ltb ohms 1) whole part) ≡ pick (external && ltb 0 ohms) part whole
 limit-is false ohms whole part = refl
@@ -46,9 +47,9 @@ current-is Done trickle precharge fast = refl
 current-is Suspended trickle precharge fast = refl
 current-is Fault trickle precharge fast = refl
 
-pub reports-are : (r : Run) → reportOf (stateOf r) ≡ reportAt r
+pub report-is-model : ReportIsModel
 unfolding reportOf reportAt currentAt voltageAt stateBy settingsAt
-reports-are r =
+report-is-model r =
     let trickle = trickleCurrent (profileOf r) in
     let current = ap (currentIn (phaseAt r) trickle (settingOf 3 r)) (fast-is r) ∙ current-is (phaseAt r) trickle (settingOf 3 r) (fastAt r) in
     λ i. record { phase = phaseAt r; current = current i; voltage = pick (charging (phaseAt r)) (voltage-is r i) (packOf 0); limit = input-limit-is r i }
