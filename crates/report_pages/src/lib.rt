@@ -2,8 +2,8 @@
 ghost use mathlib.Core.Path.{_≡_};
 ghost use Prim.Native.Nat.{_≤_, min};
 ghost use lib.ListN.{length, take};
-ghost use Rattle.base.specs.Writing.{put, written, writtenTold};
-ghost use Rattle.report_pages.specs.Text.{numbersOf, linesText, pageCount, pageText};
+ghost use Rattle.report_pages.specs.Text.{numbersOf, linesText, pageCount};
+ghost use Rattle.report_pages.specs.Contracts.{PagePromise};
 use base::refusal::Refusal;
 use base::written::Written;
 use report_state::line::Line;
@@ -56,7 +56,7 @@ fn lesser(a: usize, b: usize) -> usize
 
 // Writes the first `most` lines of a page.
 pub fn page(out: &mut [u8], lines: PageLines, most: usize) -> Written
-    ensures { λ r. ⌜ (writtenTold r ≡ written (pageText most lines) (now (out .entry))) × (now (out .exit) ≡ put (pageText most lines) (now (out .entry))) ⌝ }
+    ensures { λ r. ⌜ PagePromise most lines (now (out .entry)) r (now (out .exit)) ⌝ }
 {
     let count = lesser(most, PAGE);
     if out.len() < width(lines, count) {
