@@ -5,3 +5,4 @@ mod Plays
 mod Replays
 mod Shows
 mod Writes
+pub mod Contracts
