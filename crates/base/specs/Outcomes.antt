@@ -28,8 +28,8 @@ abbrev pub TellsBytes : {A B : Type 0} → (A → B) → B → List ℕ → A �
 TellsBytes told given bytes a after = (told a ≡ given) × (after ≡ bytes)
 
 -- the form of a number that is what a definition gives, with the most that it can be
-abbrev pub Bounded : ℕ → ℕ → ℕ → Type 0
-Bounded given most a = (a ≡ given) × (a ≤ most)
+abbrev pub TellsAtMost : ℕ → ℕ → ℕ → Type 0
+TellsAtMost given most a = (a ≡ given) × (a ≤ most)
 
 -- the theorem: a promise of the first two forms, with a telling that settles the result, allows one outcome, whatever its definitions give at the inputs
 abbrev pub ContractSettles : Type 1
@@ -40,7 +40,7 @@ ContractSettlesBytes = (A B : Type 0) (told : A → B) → Settled told → (giv
 
 -- so does one of the third form
 abbrev pub BoundedSettles : Type 0
-BoundedSettles = (given most : ℕ) → One (Bounded given most)
+BoundedSettles = (given most : ℕ) → One (TellsAtMost given most)
 
 -- a result that is told as it is
 abbrev pub itself : {A : Type 0} → A → A
