@@ -26,7 +26,7 @@ use Rattle.c_calls.specs.Replaying.{replayIn, replayOf}
 use Rattle.c_calls.specs.declared.answer.Answer.{Answer}
 use Rattle.c_calls.specs.Showing.{reportReady, reportCallOf}
 use Rattle.c_calls.specs.Writing.{putTold, writeGiven, writeCallOf}
-use Rattle.c_calls.specs.Promises.{Untouched, RefusalLeaves}
+use Rattle.c_calls.specs.Promises.{ourCalls, Untouched, RefusalLeaves}
 
 picked : (t : Bool) (yes-case no-case : Both ℕ) → yes-case .answer ≡ 0 → pick t yes-case no-case .answer ≢ 0 → pick t yes-case no-case ≡ no-case
 picked true y n e h = absurd (h e)
@@ -98,6 +98,6 @@ write-leaves : (kind : ℕ) (words out : List ℕ) → writeCallOf kind words ou
 unfolding writeCallOf
 write-leaves kind words out h = write-given (givenOf kind words) out h
 
-pub refusal-leaves : RefusalLeaves
+pub refusal-leaves : RefusalLeaves ourCalls
 refusal-leaves =
-    record { play = play-leaves; event = event-leaves; off = off-leaves; replay = replay-leaves; report = report-leaves; write = write-leaves }
+    record { off = off-leaves; play = play-leaves; replay = replay-leaves; event = event-leaves; report = report-leaves; write = write-leaves }

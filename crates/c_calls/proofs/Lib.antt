@@ -1,6 +1,7 @@
 -- The laws of the crate `c_calls`.
-pub mod Leaves
 mod Lands
+pub mod Leaves
+pub mod Lengths
 mod Plays
 mod Replays
 mod Shows

@@ -2,7 +2,7 @@
 use Prim.Native.Nat.{ℕ, zero, suc, _+_, _≤_, _<_}
 use native.Mathlib.Omega.{arith}
 use mathlib.Core.Path.{_≡_, refl, sym, ap, subst}
-use mathlib.Core.List.{List, [], _∷_}
+use mathlib.Core.List.{List, [], _∷_, _++_}
 use mathlib.Core.Logic.{_⊎_, inl, inr}
 use mathlib.Core.Bool.{Bool, true, false}
 use lib.Dec.{ltb}
@@ -16,11 +16,13 @@ use Rattle.log_record.specs.Records.{Met, met, refused, end}
 use Rattle.laws_step.specs.Rows.{Among}
 use Rattle.laws_format.specs.Format.{Spells, kind-then-numbers}
 use Rattle.laws_format.specs.Unreadable.{NoNumber, cut-off, five-high, too-large, zero-last, NoRecord, no-kind, stopped}
-use Rattle.laws_format.specs.Readers.{Reader, Stands, Reads}
-use Rattle.laws_demands.specs.Product.{Step, Reporter, Walker, Printed}
+use Rattle.laws_format.specs.Readers.{Reader, SpelledAt, Reads}
+use Rattle.laws_demands.specs.Product.{Step, Reporter, Walker, LogLines}
 use Rattle.laws_demands.specs.Printed.{Log, readOn, logFrom, linesBy, printedBy}
 use Rattle.laws_demands.specs.Second.{Walks}
-use Rattle.laws_demands.specs.First.{ReadAt, event, unreadable, Walked, whole}
+use Rattle.log_pairs.specs.Comparing.{Answer}
+use Rattle.laws_pairs.specs.Compared.{SideBySide, second-is-start, first-is-start, first-unreadable, second-unreadable, different}
+use Rattle.laws_demands.specs.First.{ReadAt, event, unreadable, WalkedIn, whole, ComparedIn, rest-of-first, rest-of-second, parted}
 use Rattle.laws_demands.specs.First as first
 
 -- a spelling has a byte, and an unreadable place too
@@ -38,7 +40,7 @@ one-to-four _ _ (no-kind b rest h) = ((omega arith, omega arith), omega arith)
 one-to-four _ _ (stopped n kind e all ns before left l k h none) = let w = one-to-three n left none in ((w .0, omega (arith, w .1)), omega arith)
 
 module _ (read : Reader) (keeps : Reads read) (bytes : List ℕ) (are : Bytes bytes) where
-  within : (at : ℕ) (e : Event) (next : ℕ) → Stands bytes at e next → (at < next) × (next ≤ length bytes)
+  within : (at : ℕ) (e : Event) (next : ℕ) → SpelledAt bytes at e next → (at < next) × (next ≤ length bytes)
   within at e next s =
       let some = some-byte e (s .spelling) (s .spells) in
       let long = ap length (s .start) in
@@ -79,7 +81,7 @@ unfolding linesBy
 lines-count step report [] m number = refl
 lines-count step report (e ∷ es) m number = ap suc (lines-count step report es (step m e .model) (suc number))
 
-pub walk-answers : (step : Step) (report : Reporter) (read : Reader) → Reads read → (bytes : List ℕ) → Bytes bytes → Walked bytes (printedBy step report read bytes)
+pub walk-answers : (step : Step) (report : Reporter) (read : Reader) → Reads read → (bytes : List ℕ) → Bytes bytes → WalkedIn bytes (printedBy step report read bytes)
 unfolding printedBy
 walk-answers step report read keeps bytes are = by (ended read keeps bytes are (suc (length bytes)) 0 (omega arith) (omega arith))
   where
@@ -89,14 +91,36 @@ walk-answers step report read keeps bytes are = by (ended read keeps bytes are (
     count : length (log .events) ≡ length (linesBy step report Off 0 (log .events))
     count = sym (lines-count step report (log .events) Off 0)
 
-    by : Ended read keeps bytes are log → Walked bytes (printedBy step report read bytes)
+    by : Ended read keeps bytes are log → WalkedIn bytes (printedBy step report read bytes)
     by (inl h) = whole (λ i. count i ∷ h .0 i ∷ h .1 i ∷ [])
     by (inr h) = first.stopped (log .code) (log .offset) (h .0) (h .1) (λ i. count i ∷ log .code ∷ log .offset ∷ [])
 
-pub walked : (step : Step) (report : Reporter) (read : Reader) (walk : Walker) → Walks step report read walk → Reads read → (bytes : List ℕ) → Bytes bytes → Walked bytes (walk bytes)
+pub walked : (step : Step) (report : Reporter) (read : Reader) (walk : Walker) → Walks step report read walk → Reads read → (bytes : List ℕ) → Bytes bytes → WalkedIn bytes (walk bytes)
 walked step report read walk by keeps bytes are = go (ltb 65536 (length bytes)) refl
   where
-    go : (t : Bool) → ltb 65536 (length bytes) ≡ t → Walked bytes (walk bytes)
+    go : (t : Bool) → ltb 65536 (length bytes) ≡ t → WalkedIn bytes (walk bytes)
     go true e = let long = ltb-true 65536 (length bytes) e in first.too-long long (by .stops bytes long)
     go false e =
-        subst (λ (w : Printed). Walked bytes w) (sym (by .walks bytes are (ltb-false 65536 (length bytes) e))) (walk-answers step report read keeps bytes are)
+        subst (λ (w : LogLines). WalkedIn bytes w) (sym (by .walks bytes are (ltb-false 65536 (length bytes) e))) (walk-answers step report read keeps bytes are)
+
+-- two logs by what they come to: a rest starts within its log, and where they part both go on
+within-first : (start rest : List ℕ) → length start ≤ length (start ++ rest)
+within-first start rest = omega (arith, length-append start rest)
+
+goes-on : (start rest : List ℕ) → 0 < length rest → length start < length (start ++ rest)
+goes-on start rest h = omega (arith, h, length-append start rest)
+
+record-goes-on : (start spelling rest : List ℕ) (e : Event) → Spells e spelling → length start < length (start ++ (spelling ++ rest))
+record-goes-on start spelling rest e s = goes-on start (spelling ++ rest) (omega (arith, length-append spelling rest, some-byte e spelling s))
+
+pub compared : {a b : List ℕ} {answer : Answer} → SideBySide a b answer → ComparedIn a b answer
+compared (second-is-start both start rest s) = rest-of-first (length start) (within-first start rest)
+compared (first-is-start both start rest s h) = rest-of-second (length start) (within-first start rest)
+compared (first-unreadable n both start rest other s row h) =
+    let k = one-to-four n rest row in
+    parted n (suc (length both)) (length start) (inl (k .0)) (omega arith) (goes-on start rest (k .1)) (goes-on start other h)
+compared (second-unreadable n both e start spelling rest other s t row) =
+    let k = one-to-four n other row in
+    parted n (suc (length both)) (length start) (inl (k .0)) (omega arith) (record-goes-on start spelling rest e t) (goes-on start other (k .1))
+compared (different both e f start spelling rest another other s t u h) =
+    parted 14 (suc (length both)) (length start) (inr refl) (omega arith) (record-goes-on start spelling rest e t) (record-goes-on start another other f u)

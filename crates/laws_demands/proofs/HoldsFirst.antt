@@ -20,9 +20,12 @@ use Rattle.laws_demands.specs.Ours.{FirstHolds}
 use Rattle.report_state.specs.Report.{reportOf}
 use Rattle.step_event.specs.Steps.{stepOf}
 use Rattle.laws_format.specs.Ours.{ourRead}
+use Rattle.c_calls.proofs.Leaves.{refusal-leaves}
+use Rattle.c_calls.proofs.Lengths.{keeps-lengths}
+use Rattle.laws_pairs.proofs.Comparing.{our-compares}
 use Rattle.laws_format.proofs.Keeping.{our-reads}
 use Rattle.laws_demands.specs.Ours.{ourWalk}
-use Rattle.laws_demands.proofs.Answers.{reads-answer, walked}
+use Rattle.laws_demands.proofs.Answers.{reads-answer, walked, compared}
 use Rattle.laws_demands.proofs.Prints.{our-walks}
 
 puts : (bytes buffer : List ℕ) → WrittenIn buffer (written bytes buffer, put bytes buffer)
@@ -41,4 +44,7 @@ first-holds = record {
   reads = λ bytes are at. reads-answer ourRead our-reads bytes are at;
   writes = λ e buffer. puts (spellEvent e) buffer;
   walks = λ bytes are. walked stepOf reportOf ourRead ourWalk our-walks our-reads bytes are;
+  compares = λ a b are bes. compared (our-compares a b are bes);
+  leaves = refusal-leaves;
+  keeps = keeps-lengths;
 }

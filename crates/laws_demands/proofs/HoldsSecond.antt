@@ -4,8 +4,12 @@ use Rattle.laws_step.proofs.Given.{each-given}
 use Rattle.laws_account.proofs.Agreeing.{outcome-is-step}
 use Rattle.laws_account.proofs.Looking.{stat-is-model, register-is-model}
 use Rattle.laws_format.proofs.Keeping.{our-reads, our-writes}
-use Rattle.laws_demands.specs.Ours.{SecondHolds}
+use Rattle.laws_pairs.proofs.Comparing.{our-compares}
+use Rattle.laws_pairs.proofs.Printing.{our-printed}
+use Rattle.laws_demands.specs.Ours.{ourPartlog, SecondHolds}
+use Rattle.laws_demands.proofs.Places.{plays-at}
 use Rattle.laws_demands.proofs.Prints.{our-walks}
+use Rattle.laws_demands.proofs.Texts.{our-text}
 use Rattle.laws_demands.proofs.Reports.{reports-are}
 
 pub second-holds : SecondHolds
@@ -17,4 +21,8 @@ second-holds = record {
   reads = our-reads;
   writes = our-writes;
   walks = our-walks;
+  compares = our-compares;
+  runlog = λ bytes are. our-text bytes;
+  partlog = λ a b are bes. our-printed a b are bes (ourPartlog a b) .1 refl;
+  places = plays-at;
 }

@@ -3,12 +3,15 @@ mod Answers
 mod Prints
 mod Reports
 mod Logs
+mod Texts
 mod Against
+mod Places
 mod Days
 pub mod HoldsFirst
 pub mod HoldsSecond
 pub mod HoldsThird
 pub mod Only
+pub mod Parts
 mod Invented
 pub mod RefutesFirst
 pub mod RefutesSecond

@@ -14,7 +14,7 @@ use Rattle.log_record.specs.Records.{met}
 use Rattle.report_state.specs.declared.line.Line.{Line}
 use Rattle.step_event.specs.Pages.{blankLine}
 use Rattle.laws_account.specs.History.{Run}
-use Rattle.laws_format.specs.Format.{SpellsAll, no-record, record-then}
+use Rattle.laws_format.specs.Format.{SpellsAll, no-events, event-then}
 use Rattle.laws_format.specs.Readers.{Reader, Reads}
 use Rattle.laws_third.specs.Demand.{Third, ranBy, ThirdOfLists}
 use Rattle.laws_demands.specs.Product.{Step, Reporter, Walker}
@@ -25,8 +25,8 @@ use Rattle.laws_demands.proofs.Answers.{some-byte}
 
 -- records have a byte each
 pub some-bytes : {es : List Event} {bytes : List ℕ} → SpellsAll es bytes → length es ≤ length bytes
-some-bytes no-record = omega arith
-some-bytes (record-then e es spelling bytes s more) =
+some-bytes no-events = omega arith
+some-bytes (event-then e es spelling bytes s more) =
     omega (arith, length-append spelling bytes, some-byte e spelling s, some-bytes more)
 
 module _ (read : Reader) (keeps : Reads read) where
@@ -41,9 +41,9 @@ module _ (read : Reader) (keeps : Reads read) where
 
   starts : (es : List Event) (start : List ℕ) → SpellsAll es start → (most : ℕ) → length es ≤ most → (before rest : List ℕ)
       → Starts most es (before ++ (start ++ rest)) (length before)
-  starts _ _ no-record most h before rest = (logFrom read most (before ++ rest) (length before) .events, refl)
-  starts _ _ (record-then e es spelling bytes s more) zero h before rest = absurd (omega arith)
-  starts _ _ (record-then e es spelling bytes s more) (suc most) h before rest =
+  starts _ _ no-events most h before rest = (logFrom read most (before ++ rest) (length before) .events, refl)
+  starts _ _ (event-then e es spelling bytes s more) zero h before rest = absurd (omega arith)
+  starts _ _ (event-then e es spelling bytes s more) (suc most) h before rest =
       let whole = before ++ ((spelling ++ bytes) ++ rest) in
       let inner : (spelling ++ bytes) ++ rest ≡ spelling ++ (bytes ++ rest) = append-assoc spelling bytes rest in
       let outer : (before ++ spelling) ++ (bytes ++ rest) ≡ before ++ (spelling ++ (bytes ++ rest)) = append-assoc before spelling (bytes ++ rest) in

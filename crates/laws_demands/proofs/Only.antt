@@ -1,7 +1,7 @@
 -- Whatever product meets demands 1 and 2 is this one.
 use Prim.Native.Nat.{ℕ, zero, suc}
 use native.Mathlib.Omega.{arith}
-use mathlib.Core.Path.{_≡_, refl, sym, _∙_}
+use mathlib.Core.Path.{_≡_, refl, sym, subst, _∙_}
 use mathlib.Core.Bool.{Bool, true, false, false≢true}
 use mathlib.Core.List.{List, [], _∷_}
 use lib.ListN.{length}
@@ -21,13 +21,16 @@ use Rattle.laws_step.proofs.Given.{each-given}
 use Rattle.step_event.proofs.Keeps.{refused-leaves}
 use Rattle.laws_format.specs.Ours.{ourRead}
 use Rattle.laws_format.specs.Readers.{Reader, Reads}
+use Rattle.laws_pairs.proofs.Comparing.{only-comparer}
+use Rattle.laws_pairs.proofs.Printing.{our-printed}
 use Rattle.laws_format.proofs.Only.{only-reader, only-writer}
-use Rattle.laws_demands.specs.Product.{Product}
-use Rattle.laws_demands.specs.Printed.{readOn, logFrom, linesBy, printedBy}
+use Rattle.laws_demands.specs.Product.{LogLines, Product}
+use Rattle.laws_demands.specs.Printed.{readOn, logFrom, linesBy, printedBy, RunText}
 use Rattle.laws_demands.specs.First.{FirstDemand}
 use Rattle.laws_demands.specs.Second.{SecondDemand}
 use Rattle.laws_demands.specs.Ours.{ourWalk}
 use Rattle.laws_demands.specs.Only.{IsOurs, OnlyOurs}
+use Rattle.laws_demands.proofs.Texts.{only-ours-printed}
 use Rattle.laws_demands.proofs.Prints.{our-walks}
 
 -- an event that is refused with 5 and leaves everything as it was
@@ -81,7 +84,12 @@ module _ (p : Product) (a : FirstDemand p) (b : SecondDemand p) where
     stats = b .stats .shows;
     registers = b .registers .shows;
     reads = only-reader (p .read) (b .reads);
+    compares = only-comparer (p .compare) (b .compares);
     walks = one-walk;
+    runlogs = λ bytes are.
+        only-ours-printed bytes (p .runlog bytes)
+        (subst (λ (w : LogLines). RunText (w .lines) (w .last) (p .runlog bytes)) (one-walk bytes are) (b .runlog bytes are));
+    partlogs = λ x y are bes. our-printed x y are bes (p .partlog x y) .0 (b .partlog x y are bes);
     writes = only-writer (p .write) (b .writes);
   }
 

@@ -58,10 +58,11 @@ use Rattle.laws_account.proofs.Powering.{poweredOf}
 use Rattle.step_event.proofs.Numbered.{some-number}
 use Rattle.log_number.specs.Promises.{Bytes}
 use Rattle.laws_format.specs.Ours.{ourRead}
-use Rattle.laws_format.specs.Readers.{Reads, Writes}
+use Rattle.laws_format.specs.Readers.{Writes}
+use Rattle.laws_format.specs.Wrong.{readsSwapped, writesSwapped, readsFirst, refusesWithOne, swapsTwoAndThree}
 use Rattle.laws_format.proofs.Examples.{paper-bytes}
 use Rattle.laws_format.proofs.Refutes.{format-refuted}
-use Rattle.laws_demands.specs.Product.{Step, Reporter, Walker, Printed, Product}
+use Rattle.laws_demands.specs.Product.{Step, Reporter, Walker, LogLines, Product}
 use Rattle.laws_demands.specs.Printed.{Log, logFrom, printedBy}
 use Rattle.laws_demands.specs.Second.{Moves, Reports, SecondDemand}
 use Rattle.laws_demands.specs.Refuted.{StepBreaks, ReportBreaks, WalkBreaks, SecondRefuted}
@@ -70,6 +71,7 @@ use Rattle.laws_demands.specs.Slips.{sameWrite, scalesPrecharge, timesAf
 use Rattle.laws_demands.proofs.Days.{paper, sample, seen, sampled, powered, coolDay, paperDay, day, of, differ, no-byte, one-byte}
 use Rattle.laws_demands.proofs.Against.{as-ours, shown-as-ours}
 use Rattle.laws_demands.proofs.Only.{same-log}
+use Rattle.laws_demands.proofs.Parts.{parts-break}
 
 -- what breaks the part of demand 2 that a call is held to breaks it for every product with that call
 step-breaks : (step : Step) → ¬ Moves step → StepBreaks step
@@ -99,7 +101,7 @@ invented fast time d =
     omega (arith, y, z)
 
 -- records read: none of no byte, one of a record's
-abbrev counted : Printed → ℕ
+abbrev counted : LogLines → ℕ
 counted w = getD (w .last) 0 0
 
 read-count : (p : Product) → SecondDemand p → (bytes : List ℕ) → Bytes bytes → length bytes ≤ 65536
@@ -135,15 +137,15 @@ second-refuted = record {
   once = step-breaks _ (λ d. differ 0 3 refl (ap (of (λ s. phaseNumber (s .phase))) (as-ours _ d powered (Observe sampled))));
   times = λ s time. step-breaks _ (invented s time);
   counts = counts-break;
-  constant = λ bytes p e d. constant bytes (subst Writes e (d .writes));
+  constant = λ bytes. parts-break .write (writesConstant bytes) (constant bytes);
   written = step-breaks _ (λ d. differ 3 2 refl (ap (of (λ s. s .registers .cells)) (as-ours _ d powered (Write 0x1B 0x43))));
   scaled = report-breaks _ (λ d. differ 24 120 refl (shown-as-ours _ d coolDay));
   timed = step-breaks _ (λ d. differ 2000 0 refl (ap (of (λ s. s .cycle .fast)) (as-ours _ d powered (Observe sampled))));
   cooled = step-breaks _ (λ d. differ 3 1 refl (ap (of (λ s. bandNumber (s .band))) (as-ours _ d powered (Observe (sample 1000 7600 0 80000 0)))));
   stray = step-breaks _ (λ d. differ 80000 55000 refl (ap (of (λ s. s .sample .ts)) (d .passes (On stray) refl (PowerOn paper))));
-  otherCode = λ p e d. format-refuted .otherCode (subst Reads e (d .reads));
-  otherCodeWritten = λ p e d. format-refuted .otherCodeWritten (subst Writes e (d .writes));
-  firstAlone = λ p e d. format-refuted .firstAlone (subst Reads e (d .reads));
-  oneForAll = λ p e d. format-refuted .oneForAll (subst Reads e (d .reads));
-  twoAndThree = λ p e d. format-refuted .twoAndThree (subst Reads e (d .reads));
+  otherCode = parts-break .read readsSwapped (format-refuted .otherCode);
+  otherCodeWritten = parts-break .write writesSwapped (format-refuted .otherCodeWritten);
+  firstAlone = parts-break .read readsFirst (format-refuted .firstAlone);
+  oneForAll = parts-break .read refusesWithOne (format-refuted .oneForAll);
+  twoAndThree = parts-break .read swapsTwoAndThree (format-refuted .twoAndThree);
 }

@@ -10,10 +10,13 @@ use Rattle.log_number.specs.Promises.{Bytes}
 use Rattle.log_event.specs.declared.Event.{Event}
 use Rattle.log_record.specs.Records.{Met}
 use Rattle.log_record.specs.Records as log
+use Rattle.log_pairs.specs.Comparing.{Answer}
+use Rattle.log_pairs.specs.Comparing as pairs
 use Rattle.step_kinds.specs.Answers.{Outcome}
+use Rattle.c_calls.specs.Promises.{RefusalLeaves, KeepsLengths}
 use Rattle.step_event.specs.Theorems.{Untouched}
 use Rattle.laws_step.specs.Rows.{Among}
-use Rattle.laws_demands.specs.Product.{Printed, Product}
+use Rattle.laws_demands.specs.Product.{LogLines, Product}
 
 -- "Every event .. gets an answer": 0, or a number of the model's order. "a refused event changes [not] the model"
 pub record Answered (m : Model) (o : Outcome) : Type 0 where
@@ -32,14 +35,24 @@ pub data WrittenIn (buffer : List ℕ) : Wrote × List ℕ → Type 0 where
   no-room : WrittenIn buffer (refused 12 0, buffer)
 
 -- a whole log: read to its end or to a record of it that can't be read, with a line for each record before; or 13 and no line
-pub data Walked (bytes : List ℕ) (w : Printed) : Type 0 where
-  whole : w .last ≡ length (w .lines) ∷ 0 ∷ length bytes ∷ [] → Walked bytes w
-  stopped : (n at : ℕ) → Among n 1 4 → at < length bytes → w .last ≡ length (w .lines) ∷ n ∷ at ∷ [] → Walked bytes w
-  too-long : 65536 < length bytes → w ≡ record { lines = []; last = 0 ∷ 13 ∷ 0 ∷ [] } → Walked bytes w
+pub data WalkedIn (bytes : List ℕ) (w : LogLines) : Type 0 where
+  whole : w .last ≡ length (w .lines) ∷ 0 ∷ length bytes ∷ [] → WalkedIn bytes w
+  stopped : (n at : ℕ) → Among n 1 4 → at < length bytes → w .last ≡ length (w .lines) ∷ n ∷ at ∷ [] → WalkedIn bytes w
+  too-long : 65536 < length bytes → w ≡ record { lines = []; last = 0 ∷ 13 ∷ 0 ∷ [] } → WalkedIn bytes w
+
+-- two logs: the rest of one from a place in it, or a number with a record's number and a place at which both go on
+pub data ComparedIn (a b : List ℕ) : Answer → Type 0 where
+  rest-of-first : (at : ℕ) → at ≤ length a → ComparedIn a b (pairs.first at)
+  rest-of-second : (at : ℕ) → at ≤ length b → ComparedIn a b (pairs.second at)
+  parted : (n number at : ℕ) → Among n 1 4 ⊎ (n ≡ 14) → 1 ≤ number → at < length a → at < length b → ComparedIn a b (pairs.refused n number at)
 
 -- "the calls ask nothing of their caller": each is for every model, event, log, place and buffer, also a model that holds what it may not
 pub record FirstDemand (p : Product) : Type 0 where
   pub steps : (m : Model) (e : Event) → Answered m (p .step m e)
   pub reads : (bytes : List ℕ) → Bytes bytes → (at : ℕ) → ReadAt bytes at (p .read bytes at)
   pub writes : (e : Event) (buffer : List ℕ) → WrittenIn buffer (p .write e buffer)
-  pub walks : (bytes : List ℕ) → Bytes bytes → Walked bytes (p .walk bytes)
+  pub walks : (bytes : List ℕ) → Bytes bytes → WalkedIn bytes (p .walk bytes)
+  pub compares : (a b : List ℕ) → Bytes a → Bytes b → ComparedIn a b (p .compare a b)
+  -- the calls for C: a refusal leaves every lent byte as it was, and every lent part stays as long as it was
+  pub leaves : RefusalLeaves (p .calls)
+  pub keeps : KeepsLengths (p .calls)

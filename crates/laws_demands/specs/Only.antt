@@ -11,12 +11,14 @@ use Rattle.log_event.specs.declared.Event.{Event}
 use Rattle.report_state.specs.Report.{reportOf}
 use Rattle.report_state.specs.Stats.{statOf}
 use Rattle.step_event.specs.Steps.{stepOf}
+use Rattle.step_text.specs.Runs.{runText}
 use Rattle.laws_format.specs.Format.{Spells}
 use Rattle.laws_format.specs.Ours.{ourRead, ourWrite}
+use Rattle.laws_pairs.specs.Ours.{ourCompare}
 use Rattle.laws_demands.specs.Product.{Product}
 use Rattle.laws_demands.specs.First.{FirstDemand}
 use Rattle.laws_demands.specs.Second.{SecondDemand}
-use Rattle.laws_demands.specs.Ours.{ourWalk}
+use Rattle.laws_demands.specs.Ours.{ourWalk, ourPartlog}
 
 -- each call is the definition that its contract cites
 pub record IsOurs (p : Product) : Type 0 where
@@ -27,7 +29,10 @@ pub record IsOurs (p : Product) : Type 0 where
   pub registers : (m : Model) (address : ℕ) → p .register m address ≡ readRegisterOf m address
   -- on every byte string, at every place
   pub reads : (bytes : List ℕ) → Bytes bytes → (at : ℕ) → p .read bytes at ≡ ourRead bytes at
+  pub compares : (a b : List ℕ) → Bytes a → Bytes b → p .compare a b ≡ ourCompare a b
   pub walks : (bytes : List ℕ) → Bytes bytes → p .walk bytes ≡ ourWalk bytes
+  pub runlogs : (bytes : List ℕ) → Bytes bytes → p .runlog bytes ≡ runText bytes
+  pub partlogs : (a b : List ℕ) → Bytes a → Bytes b → p .partlog a b ≡ ourPartlog a b
   -- on every event that has a spelling, into every buffer
   pub writes : (e : Event) (spelling : List ℕ) → Spells e spelling → (buffer : List ℕ) → p .write e buffer ≡ ourWrite e buffer
 

@@ -1,7 +1,7 @@
--- What is printed of a log, in numbers, by any step, report and reader: "each record gives: number, kind, answer (0 or refusal), phase, current, voltage, input limit, pulse, flags" and
+-- What is printed of a log, in numbers by any step, report and reader, and the text of such numbers: "each record gives: number, kind, answer (0 or refusal), phase, current, voltage, input limit, pulse, flags" and
 -- "Last: `end`, records read, code (0 or 1-4), offset of the log's end or the unreadable record."
 use Prim.Native.Nat.{ℕ, zero, suc}
-use mathlib.Core.List.{List, [], _∷_}
+use mathlib.Core.List.{List, [], _∷_, _++_}
 use lib.ListN.{length}
 use Rattle.base.specs.Pick.{bitOf}
 use Rattle.base.specs.Volts.{packOf, millivoltsOf}
@@ -17,7 +17,8 @@ use Rattle.step_kinds.specs.Answers.{Outcome}
 use Rattle.report_state.specs.declared.answer.Report.{Report}
 use Rattle.report_state.specs.declared.line.Line.{Line}
 use Rattle.laws_format.specs.Readers.{Reader}
-use Rattle.laws_demands.specs.Product.{Step, Reporter, Printed}
+use Rattle.laws_pairs.specs.Text.{LineText, EndText}
+use Rattle.laws_demands.specs.Product.{Step, Reporter, LogLines}
 
 -- "all else is the state held, zeros before power-on"
 abbrev pub reportIn : Reporter → Model → Report
@@ -76,11 +77,19 @@ logFrom read zero bytes at = record { events = []; code = 0; offset = at }
 logFrom read (suc most) bytes at = readOn at (read bytes at) (λ next. logFrom read most bytes next)
 
 -- a whole log, on a model that is off: it has no more records than bytes
-unfoldable pub printedBy : Step → Reporter → Reader → List ℕ → Printed
+unfoldable pub printedBy : Step → Reporter → Reader → List ℕ → LogLines
 printedBy step report read bytes =
     let log = logFrom read (suc (length bytes)) bytes 0 in
     record { lines = linesBy step report Off 0 (log .events); last = length (log .events) ∷ log .code ∷ log .offset ∷ [] }
 
 -- 13: "program input above 65,536 bytes": "it prints only `end 0 13 0`"
-abbrev pub tooLong : Printed
-tooLong = record { lines = []; last = 0 ∷ 13 ∷ 0 ∷ [] }
+abbrev pub refusedRun : LogLines
+refusedRun = record { lines = []; last = 0 ∷ 13 ∷ 0 ∷ [] }
+
+abbrev pub lineNumbers : Line → List ℕ
+lineNumbers l = l .number ∷ l .kind ∷ l .answer ∷ l .phase ∷ l .current ∷ l .voltage ∷ l .limit ∷ l .pulse ∷ l .flags ∷ []
+
+-- "in decimal, one space apart": a line after the other, and the last one
+pub data RunText : List Line → List ℕ → List ℕ → Type 0 where
+  last-line : (records code offset : ℕ) (text : List ℕ) → EndText records code offset text → RunText [] (records ∷ code ∷ offset ∷ []) text
+  line-then : (l : Line) (ls : List Line) (last text rest : List ℕ) → LineText (lineNumbers l) text → RunText ls last rest → RunText (l ∷ ls) last (text ++ rest)

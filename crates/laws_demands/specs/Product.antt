@@ -9,7 +9,9 @@ use Rattle.report_state.specs.declared.answer.Report.{Report}
 use Rattle.report_state.specs.declared.answer.Stat.{Stat}
 use Rattle.report_state.specs.declared.line.Line.{Line}
 use Rattle.step_kinds.specs.Answers.{Outcome}
+use Rattle.c_calls.specs.Promises.{Calls}
 use Rattle.laws_format.specs.Readers.{Reader, Writer}
+use Rattle.laws_pairs.specs.Compared.{Comparer}
 
 -- one event on a model
 abbrev pub Step : Type 0
@@ -20,12 +22,12 @@ abbrev pub Reporter : Type 0
 Reporter = State → Report
 
 -- a run of a log, in numbers: a line for each record, and the last line's three
-pub record Printed : Type 0 where
+pub record LogLines : Type 0 where
   pub lines : List Line
   pub last : List ℕ
 
 abbrev pub Walker : Type 0
-Walker = List ℕ → Printed
+Walker = List ℕ → LogLines
 
 pub record Product : Type 0 where
   pub step : Step
@@ -35,4 +37,10 @@ pub record Product : Type 0 where
   pub register : Model → ℕ → Told ℕ
   pub read : Reader
   pub write : Writer
+  pub compare : Comparer
   pub walk : Walker
+  -- the bytes that runlog prints of its input, and partlog of its two files
+  pub runlog : List ℕ → List ℕ
+  pub partlog : List ℕ → List ℕ → List ℕ
+  -- the calls for C
+  pub calls : Calls

@@ -5,12 +5,16 @@ use mathlib.Core.List.{List}
 use Rattle.base.specs.declared.refusal.Refusal.{Refusal}
 use Rattle.report_state.specs.Report.{reportOf}
 use Rattle.laws_account.specs.Cycles.{Stage}
-use Rattle.laws_format.specs.Readers.{Reader, Writer}
+use Rattle.c_calls.specs.Promises.{Calls, RefusalLeaves}
+use Rattle.laws_format.specs.Readers.{Reader, Writer, Reads, Writes}
 use Rattle.laws_format.specs.Wrong.{readsSwapped, writesSwapped, readsFirst, refusesWithOne, swapsTwoAndThree}
+use Rattle.laws_pairs.specs.Compared.{Comparer, Compares}
 use Rattle.laws_third.specs.Demand.{ThirdOfLists}
+use Rattle.laws_heads.specs.Third.{ThirdOfImages}
 use Rattle.laws_demands.specs.Product.{Step, Reporter, Walker, Product}
 use Rattle.laws_demands.specs.First.{FirstDemand}
 use Rattle.laws_demands.specs.Second.{SecondDemand}
+use Rattle.laws_demands.specs.Third.{ThirdDemand}
 use Rattle.laws_demands.specs.Wrong.{forgets, stopsAlways, spills, refusesAlways, reportsZeros, ignoresEvents, worksOnce, inventsTimes, inventsCounts, writesConstant, dropsStray, powersOnce}
 use Rattle.laws_demands.specs.Slips.{sameWrite, scalesPrecharge, timesAfter, judgesCool, halvesByNew, keepsTimes}
 
@@ -80,3 +84,13 @@ pub record ThirdRefuted : Type 0 where
   pub after : ¬ ThirdOfLists timesAfter reportOf
   pub halved : ¬ ThirdOfLists halvesByNew reportOf
   pub uncleared : ¬ ThirdOfLists keepsTimes reportOf
+
+-- what breaks the part that a call is held to breaks the demand, whatever the rest of the product is like: so the wrong readers and writers, comparisons and calls for C that
+-- `FormatRefuted`, `PairsRefuted` and `HeadsRefuted` have break it too
+pub record PartsBreak : Type 0 where
+  pub read : (read : Reader) → ¬ Reads read → ReadBreaks read
+  pub write : (write : Writer) → ¬ Writes write → WriteBreaks write
+  pub compare : (compare : Comparer) → ¬ Compares compare → (p : Product) → p .compare ≡ compare → ¬ SecondDemand p
+  pub leaves : (calls : Calls) → ¬ RefusalLeaves calls → (p : Product) → p .calls ≡ calls → ¬ FirstDemand p
+  pub images : (calls : Calls) → ¬ ThirdOfImages calls → (p : Product) → p .calls ≡ calls → ¬ ThirdDemand p
+  pub lists : (step : Step) (report : Reporter) → ¬ ThirdOfLists step report → (p : Product) → p .step ≡ step → p .report ≡ report → ¬ ThirdDemand p

@@ -24,8 +24,10 @@ use Rattle.laws_account.specs.Runs.{Lawful}
 use Rattle.laws_account.specs.Reported.{reportAt}
 use Rattle.laws_account.specs.Looked.{statAt, registerAt}
 use Rattle.laws_format.specs.Readers.{Reader, Reads, Writes}
+use Rattle.laws_pairs.specs.Compared.{Compares}
+use Rattle.laws_pairs.specs.Files.{Printed}
 use Rattle.laws_demands.specs.Product.{Step, Reporter, Walker, Product}
-use Rattle.laws_demands.specs.Printed.{printedBy, tooLong}
+use Rattle.laws_demands.specs.Printed.{printedBy, refusedRun, RunText}
 
 -- "Each accepted event moves the model as document 01 says"
 pub record Moves (step : Step) : Type 0 where
@@ -54,7 +56,7 @@ pub record Registers (register : Model → ℕ → Told ℕ) : Type 0 where
 -- a run of a log: what the step, the report and the reader make of it; 13 above 65,536 bytes
 pub record Walks (step : Step) (report : Reporter) (read : Reader) (walk : Walker) : Type 0 where
   pub walks : (bytes : List ℕ) → Bytes bytes → length bytes ≤ 65536 → walk bytes ≡ printedBy step report read bytes
-  pub stops : (bytes : List ℕ) → 65536 < length bytes → walk bytes ≡ tooLong
+  pub stops : (bytes : List ℕ) → 65536 < length bytes → walk bytes ≡ refusedRun
 
 pub record SecondDemand (p : Product) : Type 0 where
   pub moves : Moves (p .step)
@@ -64,3 +66,10 @@ pub record SecondDemand (p : Product) : Type 0 where
   pub reads : Reads (p .read)
   pub writes : Writes (p .write)
   pub walks : Walks (p .step) (p .report) (p .read) (p .walk)
+  pub compares : Compares (p .compare)
+  -- what runlog prints: the run of its input, as text
+  pub runlog : (bytes : List ℕ) → Bytes bytes → RunText (p .walk bytes .lines) (p .walk bytes .last) (p .runlog bytes)
+  -- what partlog prints: 13 above 65,536 bytes, else what the two logs come to
+  pub partlog : (a b : List ℕ) → Bytes a → Bytes b → Printed a b (p .partlog a b)
+  -- "The place is the record's start", the model's refusals in a log included: a record that a head plays
+  pub places : (image log : List ℕ) → Bytes log → (place : ℕ) (shown : List ℕ) → p .calls .play image log place shown .answer .place ≡ place

@@ -1,4 +1,5 @@
--- Demand 3 of a product: "Take any run of accepted events since the latest power-on. .." holds of every list of events that its step is given, and of every record of every log.
+-- Demand 3 of a product: "Take any run of accepted events since the latest power-on. .." holds of every list of events that its step is given, of every
+-- record of every log, and of every image that its calls for C moved.
 use Prim.Native.Nat.{ℕ, _≤_}
 use mathlib.Core.Path.{_≡_}
 use mathlib.Core.List.{List, [], _∷_, _++_}
@@ -13,6 +14,7 @@ use Rattle.laws_account.specs.History.{Run}
 use Rattle.laws_account.specs.Refused.{none, some, pastOf}
 use Rattle.laws_format.specs.Format.{SpellsAll}
 use Rattle.laws_third.specs.Demand.{Third, ThirdOfLists}
+use Rattle.laws_heads.specs.Third.{ThirdOfImages}
 use Rattle.laws_demands.specs.Product.{Walker, Product}
 
 -- a line shows what demand 3 says of a run
@@ -31,3 +33,4 @@ ThirdOfLogs walk =
 pub record ThirdDemand (p : Product) : Type 0 where
   pub lists : ThirdOfLists (p .step) (p .report)
   pub logs : ThirdOfLogs (p .walk)
+  pub images : ThirdOfImages (p .calls)

@@ -19,7 +19,7 @@ use Rattle.log_record.specs.Items.{spellItems}
 use Rattle.log_record.specs.Records.{spellEvent}
 use Rattle.log_record.specs.Promises.{Spellable}
 use Rattle.log_record.proofs.RecordLaws.{spellings-differ}
-use Rattle.laws_format.specs.Format.{Groups, last, more, largest, Numbers, none, one, Ibat, from-zero, below-zero, Listed, power-on, set, write, take-flags, observe, service, reset, Spells, kind-then-numbers, AllSmall, InRange, Signed32, OneSpelling}
+use Rattle.laws_format.specs.Format.{Groups, last, more, largest, Numbers, none, one, Ibat, from-zero, below-zero, Listed, power-on, set, write, take-flags, observe, service, reset, Spells, kind-then-numbers, AllSmall, InRange, Signed32, SpelledOnce}
 
 -- ---- groups
 pub groups-are : {n : ℕ} {groups : List ℕ} → Groups n groups → groups ≡ spell n
@@ -117,7 +117,7 @@ signed-fits : (z : ℤ) → Signed32 z → loggedOf z ≤ largest
 signed-fits (pos n) h = omega arith
 signed-fits (negsuc k) h = omega arith
 
-pub one-spelling : OneSpelling
+pub one-spelling : SpelledOnce
 one-spelling = record {
   some = λ e. (λ h. (spellEvent e, spelled e (fits e h)), λ s. in-range e (spells-are (s .1) .1));
   one = λ e a b p q. spells-are p .0 ∙ sym (spells-are q .0);

@@ -15,12 +15,12 @@ use Rattle.log_record.specs.Records.{spellEvent, Met, met, refused, end, placed
 use Rattle.log_record.proofs.ItemLaws.{bytes-drop}
 use Rattle.log_record.proofs.RecordLaws.{reads-back, one-spelling}
 use Rattle.laws_format.specs.Unreadable.{NoRecord, LogRow}
-use Rattle.laws_format.specs.Readers.{Stands}
+use Rattle.laws_format.specs.Readers.{SpelledAt}
 use Rattle.laws_format.specs.Ours.{ourRead, OurReads, OurWrites}
 use Rattle.laws_format.proofs.Formats.{spells-are, spelled}
 use Rattle.laws_format.proofs.RecordsRefused.{Recorded, a-record, no-record, no-byte, recorded, refused-record}
 
-only : (bytes : List ℕ) → Bytes bytes → (at : ℕ) (e : Event) (next : ℕ) → ourRead bytes at ≡ met e next → Stands bytes at e next
+only : (bytes : List ℕ) → Bytes bytes → (at : ℕ) (e : Event) (next : ℕ) → ourRead bytes at ≡ met e next → SpelledAt bytes at e next
 only bytes bs at e next m =
     let k = one-spelling bytes bs at e next m in
     record { spelling = spellEvent e; spells = spelled e (k .fits); long = k .long; start = k .start }

@@ -4,5 +4,6 @@ pub mod NumbersRefused
 pub mod RecordsRefused
 pub mod Keeping
 pub mod Only
+pub mod Logs
 pub mod Examples
 pub mod Refutes

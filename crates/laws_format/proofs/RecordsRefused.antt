@@ -70,7 +70,7 @@ Known r = (1 ≤ r .byte) × (r .byte ≤ 7)
 each-known : EachRow Known kinds
 each-known = search needs
 
-missed : (t : List KindRow) (b : ℕ) → rowFor t b ≡ option.none → EachRow (λ r. b ≢ r .byte) t
+pub missed : (t : List KindRow) (b : ℕ) → rowFor t b ≡ option.none → EachRow (λ r. b ≢ r .byte) t
 missed [] b e = tt
 missed (r ∷ t) b e = go (eqb b (r .byte)) refl (missed t b) e
   where
@@ -79,19 +79,19 @@ missed (r ∷ t) b e = go (eqb b (r .byte)) refl (missed t b) e
     go true eu ih e = absurd (let z : _≡_ {A = ℕ} 0 1 = cc in omega arith)
     go false eu ih e = (eqb-false b (r .byte) eu, ih e)
 
-none-between : (b : ℕ) → EachRow (λ r. b ≢ r .byte) kinds → ¬ ((1 ≤ b) × (b ≤ 7))
+pub none-between : (b : ℕ) → EachRow (λ r. b ≢ r .byte) kinds → ¬ ((1 ≤ b) × (b ≤ 7))
 none-between b d a =
     let above : 5 ≤ b = omega (arith, a .0, d .0, d .1 .0, d .1 .1 .0, d .1 .1 .1 .0) in
     omega (arith, a .1, d .1 .1 .1 .1 .0, d .1 .1 .1 .1 .1 .0, d .1 .1 .1 .1 .1 .1 .0)
 
-no-row : (b : ℕ) → ¬ ((1 ≤ b) × (b ≤ 7)) → rowFor kinds b ≡ option.none
+pub no-row : (b : ℕ) → ¬ ((1 ≤ b) × (b ≤ 7)) → rowFor kinds b ≡ option.none
 no-row b out = go (rowFor kinds b) refl
   where
     go : (x : Option KindRow) → rowFor kinds b ≡ x → x ≡ option.none
     go option.none e = refl
     go (some r) e = let k = row-has Known kinds each-known b r e in absurd (out (subst (λ (c : ℕ). (1 ≤ c) × (c ≤ 7)) (k .1) (k .0)))
 
-count-of : (e : Event) → length (shapesOf (kindOf e)) ≡ length (values (itemsOf e))
+pub count-of : (e : Event) → length (shapesOf (kindOf e)) ≡ length (values (itemsOf e))
 count-of e = ap length (sym (every-event e .shaped)) ∙ shapes-long (itemsOf e)
 
 abbrev nothings : List Shape → List Item

@@ -10,7 +10,7 @@ use Rattle.log_event.specs.declared.Event.{Event}
 use Rattle.log_record.specs.Records.{Met, met, refused, end, spellEvent, recordAt}
 use Rattle.laws_format.specs.Format.{Spells}
 use Rattle.laws_format.specs.Unreadable.{LogRow}
-use Rattle.laws_format.specs.Readers.{Reader, Writer, Stands, Reads, Writes}
+use Rattle.laws_format.specs.Readers.{Reader, Writer, SpelledAt, Reads, Writes}
 
 abbrev pub ourRead : Reader
 ourRead = recordAt kinds
@@ -34,12 +34,12 @@ abbrev pub OnlyWriter : Type 0
 OnlyWriter = (write : Writer) → Writes write → (e : Event) (spelling : List ℕ) → Spells e spelling → (buffer : List ℕ) → write e buffer ≡ ourWrite e buffer
 
 -- what the format says of a place of a log: an event's record, a refusal's row, or the end
-pub data Answer (bytes : List ℕ) (at : ℕ) : Met → Type 0 where
-  event : (e : Event) (next : ℕ) → Stands bytes at e next → Answer bytes at (met e next)
-  unreadable : (n : ℕ) → LogRow n bytes at → Answer bytes at (refused n at)
-  over : length bytes ≤ at → Answer bytes at end
+pub data AnswerAt (bytes : List ℕ) (at : ℕ) : Met → Type 0 where
+  event : (e : Event) (next : ℕ) → SpelledAt bytes at e next → AnswerAt bytes at (met e next)
+  unreadable : (n : ℕ) → LogRow n bytes at → AnswerAt bytes at (refused n at)
+  over : length bytes ≤ at → AnswerAt bytes at end
 
 -- at every place of every byte string it says one thing
-pub record OneAnswer : Type 0 where
-  pub some : (bytes : List ℕ) → Bytes bytes → (at : ℕ) → (x : Met) × Answer bytes at x
-  pub one : (bytes : List ℕ) → Bytes bytes → (at : ℕ) (x y : Met) → Answer bytes at x → Answer bytes at y → x ≡ y
+pub record OneAnswerAt : Type 0 where
+  pub some : (bytes : List ℕ) → Bytes bytes → (at : ℕ) → (x : Met) × AnswerAt bytes at x
+  pub one : (bytes : List ℕ) → Bytes bytes → (at : ℕ) (x y : Met) → AnswerAt bytes at x → AnswerAt bytes at y → x ≡ y

@@ -22,7 +22,7 @@ abbrev pub Writer : Type 0
 Writer = Event → List ℕ → Wrote × List ℕ
 
 -- a record of an event stands at a place of a log: the event's spelling, up to `next`
-pub record Stands (bytes : List ℕ) (at : ℕ) (e : Event) (next : ℕ) : Type 0 where
+pub record SpelledAt (bytes : List ℕ) (at : ℕ) (e : Event) (next : ℕ) : Type 0 where
   pub spelling : List ℕ
   pub spells : Spells e spelling
   pub long : next ≡ at + length spelling
@@ -33,7 +33,7 @@ pub record Reads (read : Reader) : Type 0 where
   pub back : (e : Event) (spelling : List ℕ) → Spells e spelling → (before rest : List ℕ)
       → read (before ++ (spelling ++ rest)) (length before) ≡ met e (length before + length spelling)
   -- what reads as an event is its spelling
-  pub only : (bytes : List ℕ) → Bytes bytes → (at : ℕ) (e : Event) (next : ℕ) → read bytes at ≡ met e next → Stands bytes at e next
+  pub only : (bytes : List ℕ) → Bytes bytes → (at : ℕ) (e : Event) (next : ℕ) → read bytes at ≡ met e next → SpelledAt bytes at e next
   -- "No | Given exactly when", 1 to 4, and "The place is the record's start."
   pub refuses : (bytes : List ℕ) → Bytes bytes → (at n place : ℕ) → (read bytes at ≡ refused n place) ↔ (LogRow n bytes at × (place ≡ at))
   -- the end, exactly from the log's end on

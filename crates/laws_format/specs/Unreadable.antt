@@ -1,4 +1,4 @@
--- 01, "Refusal numbers | Given exactly when", 1 to 4: bytes that can't be read. "Log order: 4, then number by number 1, 3, 2": no byte string has two of these numbers (`OneAnswer`).
+-- 01, "Refusal numbers | Given exactly when", 1 to 4: bytes that can't be read. "Log order: 4, then number by number 1, 3, 2": no byte string has two of these numbers (`OneAnswerAt`).
 use Prim.Native.Nat.{ℕ, _≤_, _<_}
 use mathlib.Core.Path.{_≡_}
 use mathlib.Core.List.{List, [], _∷_, _++_}

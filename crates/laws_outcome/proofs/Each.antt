@@ -13,6 +13,7 @@ use Rattle.report_text.proofs.Contracts as text
 use Rattle.report_pages.proofs.Contracts as pages
 use Rattle.step_kinds.proofs.Contracts as change
 use Rattle.step_event.proofs.Contracts as step
+use Rattle.step_text.proofs.Contracts as print
 use Rattle.c_words.proofs.Contracts as words
 use Rattle.c_image.proofs.Contracts as image
 use Rattle.c_event.proofs.Contracts as given
@@ -36,6 +37,7 @@ every-call =
       report-pages = pages.one-outcome;
       step-kinds = change.one-outcome;
       step-event = step.one-outcome;
+      step-text = print.one-outcome;
       c-words = words.one-outcome;
       c-image = image.one-outcome;
       c-event = given.one-outcome;

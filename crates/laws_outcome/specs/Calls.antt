@@ -14,6 +14,7 @@ use Rattle.report_text.specs.Contracts as text
 use Rattle.report_pages.specs.Contracts as pages
 use Rattle.step_kinds.specs.Contracts as change
 use Rattle.step_event.specs.Contracts as step
+use Rattle.step_text.specs.Contracts as print
 use Rattle.c_words.specs.Contracts as words
 use Rattle.c_image.specs.Contracts as image
 use Rattle.c_event.specs.Contracts as given
@@ -36,6 +37,7 @@ pub record EveryCall : Type 1 where
   pub report-pages : pages.OneOutcome
   pub step-kinds : change.OneOutcome
   pub step-event : step.OneOutcome
+  pub step-text : print.OneOutcome
   pub c-words : words.OneOutcome
   pub c-image : image.OneOutcome
   pub c-event : given.OneOutcome

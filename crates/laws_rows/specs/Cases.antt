@@ -3,7 +3,7 @@ use Prim.Native.Nat.{ℕ}
 use Prim.Native.Char.{code}
 use Prim.Native.String.{String}
 use Prim.Native.String as text
-use mathlib.Core.List.{List, [], _∷_, _++_}
+use mathlib.Core.List.{List, [], _∷_}
 use Rattle.base.specs.Found.{Found, found, refused}
 use Rattle.base.specs.Stamps.{elapsedOf}
 use Rattle.base.specs.Volts.{millivoltsOf}
@@ -17,9 +17,7 @@ use Rattle.log_record.specs.Records.{spellEvent}
 use Rattle.state_settings.specs.Numbered.{heldOf}
 use Rattle.report_state.specs.Report.{reportOf}
 use Rattle.step_event.specs.Steps.{stepOf}
-use Rattle.step_event.specs.Pages.{wholeOf, endOf}
-use Rattle.report_text.specs.Text.{endText}
-use Rattle.report_pages.specs.Text.{linesText}
+use Rattle.step_text.specs.Runs.{runText}
 
 -- what is asked of a state
 pub data Asked : Type 0 where
@@ -66,7 +64,7 @@ refusalOf (found value next) = []
 refusalOf (refused n place) = n ∷ []
 
 abbrev pub given : Case → List ℕ
-given (log bytes) = linesText (wholeOf bytes .lines) ++ endText (endOf bytes)
+given (log bytes) = runText bytes
 given (events es asked) = allTold (after Off es) asked
 given (stamps earlier later) = elapsedOf earlier later ∷ []
 given (spelling e) = spellEvent e

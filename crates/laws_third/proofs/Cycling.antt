@@ -17,7 +17,7 @@ use Rattle.laws_account.specs.Valued.{settingOf}
 use Rattle.laws_account.specs.Judged.{ending}
 use Rattle.laws_account.specs.Refused.{Accepted}
 use Rattle.laws_account.specs.Cycles.{Stage, trickle, precharge, fast, limitOf, heldIn, numberAt, unitsAfter, reaches, gave, starts, isDone, wasDone, timeIn, limitReached, chargeEnds, phaseAt}
-use Rattle.laws_third.specs.Stages.{WasDone, Restarts, Starts, StartedAt, passed, given, timeSince, Reached, Ends, Done}
+use Rattle.laws_third.specs.Stages.{WasDone, Restarts, CycleStarts, StartedAt, passed, unitsGiven, timeSince, Reached, Ends, Done}
 use Rattle.laws_third.proofs.Means.{Means, leb-means, eqb-means, true-means, false-means, and-means, or-means, not-means, re-means, by-test, or-cases, or-left, or-right}
 use Rattle.laws_third.proofs.Positions.{since-means, sum-is, last-is, last-le, total-alike, accepted-up}
 use Rattle.laws_third.proofs.Bands.{tapering-means}
@@ -39,7 +39,7 @@ restarts-means r a =
     (and-means (was-means r) (and-means (may-means r a) (recharge-means r a)))
 
 -- a cycle starts
-pub starts-means : (r : Run) → Accepted r → Means (starts phaseAt r) (Starts r)
+pub starts-means : (r : Run) → Accepted r → Means (starts phaseAt r) (CycleStarts r)
 starts-means r a =
     by-test (starts-is r) (or-means (true-means (wasReset r)) (or-means (not-means (permitted-means r)) (restarts-means r a)))
 
@@ -92,7 +92,7 @@ rated : (t : Bool) (ms : ℕ) → ms * pick t 1 2 ≡ pick t ms (ms * 2)
 rated true ms = omega arith
 rated false ms = refl
 
-given-is : (s : Stage) (r : Run) → given s r ≡ gave phaseAt s r
+given-is : (s : Stage) (r : Run) → unitsGiven s r ≡ gave phaseAt s r
 unfolding gave unitsAfter
 given-is s (powered p) = refl
 given-is s (r ▸ e) =
@@ -102,7 +102,7 @@ pub time-is : (s : Stage) (r : Run) → timeIn phaseAt s r ≡ timeSince (startO
 unfolding timeIn
 time-is s r =
     sum-is (starts phaseAt) (gave phaseAt s) r
-    ∙ total-alike (λ i. gave phaseAt s (upTo i r)) (λ i. given s (upTo i r)) (startOf r) (count r - startOf r) (λ i h. sym (given-is s (upTo i r)))
+    ∙ total-alike (λ i. gave phaseAt s (upTo i r)) (λ i. unitsGiven s (upTo i r)) (startOf r) (count r - startOf r) (λ i h. sym (given-is s (upTo i r)))
 
 -- a limit reached
 some-means : (n : ℕ) → Means (not (eqb n 0)) (0 < n)

@@ -9,7 +9,7 @@ use Rattle.laws_account.specs.Held.{wasReset}
 use Rattle.laws_account.specs.Cycles.{Stage, heldIn, numberAt, timeIn, phaseAt}
 use Rattle.log_event.specs.declared.Event.{Event}
 use Rattle.laws_account.specs.Refused.{Accepted, none, some, pastOf}
-use Rattle.laws_third.specs.Stages.{Starts, StartedAt, timeSince, Reached, Ends, Done}
+use Rattle.laws_third.specs.Stages.{CycleStarts, StartedAt, timeSince, Reached, Ends, Done}
 
 -- the present cycle started once, and what the account has of a stage is the sum from there to now: no time is lost or invented
 pub record Cycled (r : Run) : Type 0 where
@@ -30,7 +30,7 @@ DoneBelowLimit = (s : Stage) (r : Run) → Accepted r → Done r → ¬ Reached 
 
 -- done, told of its moment alone, is: it began at a moment, and no cycle has started since
 abbrev pub DoneSince : Type 0
-DoneSince = (r : Run) → Accepted r → Done r ↔ Since (λ m. ¬ Starts m) Ends r
+DoneSince = (r : Run) → Accepted r → Done r ↔ Since (λ m. ¬ CycleStarts m) Ends r
 
 -- and what the phases say: 5 at a moment, and since then neither a reset nor a phase but 5, 6 and 7
 abbrev pub DoneByPhases : Type 0

@@ -29,14 +29,14 @@ abbrev pub Restarts : Run → Type 0
 Restarts r = WasDone r × Allowed r × BelowRecharge r
 
 -- "Without it the cycle's times and done are cleared. A cycle starts where they last cleared: here, at a restart below, a reset or power-on."
-abbrev pub Starts : Run → Type 0
-Starts r = (wasReset r ≡ true) ⊎ ((¬ (InputGood r × Permitted r)) ⊎ Restarts r)
+abbrev pub CycleStarts : Run → Type 0
+CycleStarts r = (wasReset r ≡ true) ⊎ ((¬ (InputGood r × Permitted r)) ⊎ Restarts r)
 
 -- the present cycle started after i events: at the power-on or where a cycle starts, and none starts later
 pub record StartedAt (r : Run) (i : ℕ) : Type 0 where
   pub inside : i ≤ count r
-  pub starting : (i ≡ 0) ⊎ Starts (upTo i r)
-  pub last : (j : ℕ) → i < j → j ≤ count r → ¬ Starts (upTo j r)
+  pub starting : (i ≡ 0) ⊎ CycleStarts (upTo i r)
+  pub last : (j : ℕ) → i < j → j ≤ count r → ¬ CycleStarts (upTo j r)
 
 -- "Time since the last stamp", in ms: an observation's brings some, by "a counter that runs free and wraps at 2^32"
 abbrev pub passed : Run → ℕ
@@ -49,13 +49,13 @@ passed (r ▸ Service) = 0
 passed (r ▸ Reset) = 0
 
 -- "goes to the stage held before it ..: two units per ms, one while the old sample shows any regulation .. a limit 0 counts nothing"
-abbrev pub given : Stage → Run → ℕ
-given s (powered p) = 0
-given s (r ▸ e) = pick (heldIn s (phaseAt r) && ltb 0 (limitOf s (profileOf r))) (passed (r ▸ e) * pick (regulated r) 1 2) 0
+abbrev pub unitsGiven : Stage → Run → ℕ
+unitsGiven s (powered p) = 0
+unitsGiven s (r ▸ e) = pick (heldIn s (phaseAt r) && ltb 0 (limitOf s (profileOf r))) (passed (r ▸ e) * pick (regulated r) 1 2) 0
 
 -- the units that a stage has run since moment i: what each event after it gave the stage
 abbrev pub timeSince : ℕ → Stage → Run → ℕ
-timeSince i s r = total (λ j. given s (upTo j r)) i (count r - i)
+timeSince i s r = total (λ j. unitsGiven s (upTo j r)) i (count r - i)
 
 -- "A limit of s seconds is reached at 2,000s units; a limit 0 counts nothing."
 abbrev pub Reached : Stage → Run → Type 0
@@ -81,4 +81,4 @@ pub record Ends (r : Run) : Type 0 where
 
 -- done: it begins, or it was and no cycle starts
 abbrev pub Done : Run → Type 0
-Done r = Ends r ⊎ (WasDone r × (¬ Starts r))
+Done r = Ends r ⊎ (WasDone r × (¬ CycleStarts r))

@@ -11,7 +11,7 @@ use Rattle.laws_account.specs.Held.{ichg, overridden}
 use Rattle.laws_account.specs.Cycles.{Stage, trickle, precharge, fast}
 use Rattle.laws_account.specs.Refused.{Accepted}
 use Rattle.laws_third.specs.Crossed.{InputOk, InputOver, InputGood, Short, Low, PackOver, BelowRecharge}
-use Rattle.laws_third.specs.Stages.{Restarts, Starts, Reached, Ends, Done}
+use Rattle.laws_third.specs.Stages.{Restarts, CycleStarts, Reached, Ends, Done}
 use Rattle.laws_third.specs.Banded.{InBand, Suspending, Tapering}
 use Rattle.laws_third.specs.Allowed.{Permitted, Fault}
 use Rattle.laws_third.specs.Demand.{Charging}
@@ -67,7 +67,7 @@ clauseOf tapers r = Tapering r
 clauseOf (banded b) r = InBand b r
 clauseOf (reached s) r = Reached s r
 clauseOf restarted r = Restarts r
-clauseOf started r = Starts r
+clauseOf started r = CycleStarts r
 clauseOf ends r = Ends r
 clauseOf ended r = Done r
 clauseOf charges r = Charging r

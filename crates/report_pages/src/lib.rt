@@ -2,8 +2,8 @@
 ghost use mathlib.Core.Path.{_≡_};
 ghost use Prim.Native.Nat.{_≤_, min};
 ghost use lib.ListN.{length, take};
-ghost use Rattle.report_pages.specs.Text.{numbersOf, linesText, pageCount};
-ghost use Rattle.report_pages.specs.Contracts.{PagePromise};
+ghost use Rattle.report_pages.specs.Text.{numbersOf, linesText, pageCount, mostPage};
+ghost use Rattle.report_pages.specs.Contracts.{PageWidthPromise, PagePromise};
 use base::refusal::Refusal;
 use base::written::Written;
 use report_state::line::Line;
@@ -36,7 +36,7 @@ fn numbers_of(line: Line) -> LineNumbers
 // How many bytes the first `count` lines have.
 fn width(lines: PageLines, count: usize) -> usize
     requires { ⌜ count ≤ pageCount ⌝ }
-    ensures { λ r. ⌜ r ≡ length (linesText (take count lines)) ⌝ }
+    ensures { λ r. ⌜ (r ≡ length (linesText (take count lines))) × (r ≤ mostPage) ⌝ }
 {
     let mut sum: usize = 0;
     let mut i: usize = 0;
@@ -52,6 +52,13 @@ fn lesser(a: usize, b: usize) -> usize
     ensures { λ r. ⌜ r ≡ min a b ⌝ }
 {
     if a < b { a } else { b }
+}
+
+// How many bytes the first `most` lines of a page have.
+pub fn page_width(lines: PageLines, most: usize) -> usize
+    ensures { λ r. ⌜ PageWidthPromise most lines r ⌝ }
+{
+    width(lines, lesser(most, PAGE))
 }
 
 // Writes the first `most` lines of a page.

@@ -1,6 +1,9 @@
--- 01, "Two logs, one program, one host": the lines that runlog prints.
-use Prim.Native.Nat.{ℕ, _+_, _*_}
+-- 01, "Two logs, one program, one host": the lines that runlog prints, and the longest input of a program.
+use Prim.Native.Nat.{ℕ, _+_, _*_, _%_, _^_}
+use mathlib.Core.Bool.{Bool}
 use mathlib.Core.List.{List, [], _∷_, _++_}
+use lib.Dec.{ltb}
+use lib.ListN.{length}
 use Rattle.report_text.specs.Decimal.{decimal, mostDigits}
 
 -- The byte after a number: 32, a space, if more numbers follow; 10, a newline, after the last.
@@ -25,9 +28,17 @@ mostLine = lineCount * (mostDigits + 1)
 unfoldable pub headedText : List ℕ → List ℕ → List ℕ
 headedText word numbers = word ++ lineText numbers
 
+-- a line's numbers have 32 bits, and no log of a program's is that long
+abbrev pub low32 : ℕ → ℕ
+low32 n = n % 2 ^ 32
+
 -- "Last: `end`, records read, code (0 or 1-4), offset of the log's end or the unreadable record."
 abbrev pub endWord : List ℕ
 endWord = 101 ∷ 110 ∷ 100 ∷ 32 ∷ []
 
 unfoldable pub endText : List ℕ → List ℕ
 endText numbers = headedText endWord numbers
+
+-- 13: "program input above 65,536 bytes"
+abbrev pub tooLong : List ℕ → Bool
+tooLong input = ltb 65536 (length input)

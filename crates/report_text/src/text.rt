@@ -3,7 +3,7 @@ ghost use mathlib.Core.Path.{_≡_};
 ghost use mathlib.Core.List.{[], _∷_};
 ghost use Prim.Native.Nat.{_≤_};
 ghost use lib.ListN.{length};
-ghost use Rattle.report_text.specs.Text.{lineCount};
+ghost use Rattle.report_text.specs.Text.{lineCount, low32};
 ghost use Rattle.report_text.specs.Contracts.{LineWidthPromise, LinePromise, HeadedPromise, EndPromise};
 ghost use Rattle.report_text.specs.Writing.{over};
 use crate::numbers;
@@ -93,4 +93,11 @@ pub fn end(out: &mut [u8], numbers: EndNumbers) -> Written
     ensures { λ r. ⌜ EndPromise numbers (now (out .entry)) r (now (out .exit)) ⌝ }
 {
     three(out, b"end ", numbers)
+}
+
+// The lowest 32 bits of a number: a line's numbers have no more.
+pub fn low(n: usize) -> u32
+    ensures { λ r. ⌜ r ≡ low32 n ⌝ }
+{
+    (n % 4294967296) as u32
 }

@@ -1,72 +1,46 @@
-// Runs the log on standard input and prints a line for each record, then the last line. All that matters is in the crates below: main reads, walks and prints.
-use base::refusal;
-use base::written::Written;
+// Prints what the log on standard input comes to: reads it, then writes out page after page. All that matters is in `step_text::print`.
+ghost use mathlib.Core.Path.{_≡_};
+ghost use mathlib.Core.Bool.{true};
+ghost use lib.ListN.{length};
+ghost use Rattle.step_text.specs.Prints.{nextText, printTold, printed};
 use libc::STDERR_FILENO;
 use libc::STDIN_FILENO;
 use libc::STDOUT_FILENO;
-use report_pages::PageLines;
-use report_text::text;
-use step_event::paging;
-use step_event::paging::Stop;
 use step_event::walking;
 use step_event::walking::Walk;
+use step_text::answer::Print;
 
-// Prints a page's lines.
-fn print_page(lines: PageLines, count: usize) {
+// Prints the next page, for which there is always room.
+fn print_page(log: &[u8], from: Walk) -> Print
+    ensures { λ r. ⌜ printTold r ≡ printed (length (nextText (now (log .entry)) from .text)) (nextText (now (log .entry)) from .walk) (nextText (now (log .entry)) from .over) ⌝ }
+{
     let mut out = [0u8; 2048];
-    let put = report_pages::page(&mut out, lines, count);
-    let Written::Count(n) = put else {
-        return;
+    let page = step_text::print(&mut out, log, from);
+    let Print::Page(n, _, _) = page else {
+        return page;
     };
-    if n <= 2048 {
-        io::write_all(STDOUT_FILENO, &out[..n]);
-    }
+    io::write_all(STDOUT_FILENO, &out[..n]);
+    page
 }
 
-// Prints the last line: records read, code, offset.
-fn print_end(number: u32, code: u32, offset: usize) {
-    let mut out = [0u8; 64];
-    let place = (offset % 4294967296) as u32;
-    let put = text::end(&mut out, [number, code, place]);
-    let Written::Count(n) = put else {
-        return;
-    };
-    if n <= 64 {
-        io::write_all(STDOUT_FILENO, &out[..n]);
-    }
-}
-
-// Prints the last line if a walk ends, and tells whether it does.
-fn ended(w: Walk, stop: Stop) -> bool {
-    match stop {
-        Stop::Full => false,
-        Stop::End => {
-            print_end(w.number, 0, w.place);
-            true
-        }
-        Stop::Unreadable(r, place) => {
-            print_end(w.number, refusal::number(r), place);
-            true
-        }
-    }
-}
-
-// Runs a log of at most 65,536 bytes: 4,097 pages of 16 are enough (`EnoughPages`, crate `step_event`).
-fn run(log: &[u8]) {
+// Prints page after page, and tells whether the last was among them: 4,097 are the whole of any input (`RunPrints`, crate `step_text`).
+fn run(log: &[u8]) -> bool
+    ensures { λ r. ⌜ r ≡ true ⌝ }
+{
     let mut walk = walking::start();
-    let mut turns: usize = 0;
-    while turns < 4097 {
-        let p = paging::turn(log, walk);
-        let lines = p.lines;
-        let after = p.walk;
-        let stop = p.stop;
-        print_page(lines, p.count);
-        if ended(after, stop) {
-            return;
+    let mut pages: usize = 0;
+    while pages < 4097 {
+        let page = print_page(log, walk);
+        let Print::Page(_, after, over) = page else {
+            return false;
+        };
+        if over {
+            return true;
         }
         walk = after;
-        turns += 1;
+        pages += 1;
     }
+    false
 }
 
 // Whether a read failed. A read that fails looks like the input's end: one more read tells the two apart.
@@ -78,14 +52,12 @@ fn read_failed() -> bool {
 fn main() {
     let mut input = [0u8; 65537];
     let n = io::read_full(STDIN_FILENO, &mut input);
-    if 65536 < n {
-        print_end(0, 13, 0);
-        return;
-    }
-    if read_failed() {
-        io::write_all(STDERR_FILENO, b"runlog: cannot read ");
-        os::fail(b"standard input");
-        return;
+    if n < 65537 {
+        if read_failed() {
+            io::write_all(STDERR_FILENO, b"runlog: cannot read ");
+            os::fail(b"standard input");
+            return;
+        }
     }
     run(&input[..n]);
 }

@@ -1,26 +1,12 @@
-// Compares two stored logs, and prints what partlog prints of them and how long the part is that is handed back.
+// Compares two stored logs, and prints how long the part is that is handed back.
 use crate::files;
 use crate::files::Loaded;
 use crate::say;
-use base::written::Written;
 use libc::STDOUT_FILENO;
-use log_pairs::answer::Compared;
 use log_pairs::rests;
 
-fn print_answer(compared: Compared) {
-    let mut out = [0u8; 64];
-    let put = log_pairs::text::answer(&mut out, compared);
-    let Written::Count(n) = put else {
-        return;
-    };
-    if n <= 64 {
-        io::write_all(STDOUT_FILENO, &out[..n]);
-    }
-}
-
-// Prints the answer of two logs, and how many bytes are handed back.
+// Prints how many bytes are handed back.
 fn print_pair<'a>(first: &'a [u8], second: &'a [u8]) {
-    print_answer(log_pairs::compare_inputs(first, second));
     let part = rests::rest(first, second);
     say::text(b"bytes ");
     io::print_decimal(STDOUT_FILENO, part.len() as u64);

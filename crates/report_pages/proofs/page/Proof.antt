@@ -10,7 +10,7 @@ use Rattle.base.specs.Writing.{wrote, writtenTold}
 use Rattle.base.proofs.Puts.{put-fits, put-short, written-fits, written-short}
 use Rattle.base.proofs.Pieces.{joined, Turn, first-turn, More, one-more, all-done}
 use Rattle.report_state.specs.declared.line.Line.{Line}
-use Rattle.report_pages.specs.Text.{pageCount, pageText}
+use Rattle.report_pages.specs.Text.{pageCount, mostPage, pageText}
 use Rattle.report_pages.proofs.Writing.{lineOf, pieces, lines-joined, page-joined, none}
 use Rattle.report_pages.proofs.page.Statement.{statement}
 use Rattle.report_pages.proofs.page.Tie as tie
@@ -27,6 +27,12 @@ whole c =
     let a = c .before .before .args in
     let l : length (a .t2) ≡ pageCount = search needs in
     page-joined (a .most) (c .lesser .result) (a .t2) (c .lesser .ensures) l
+
+-- and no longer than a page can be
+short-enough : (c : tie.After-width Inv-loop μ-loop) → length (pageText (c .before .before .before .args .most) (c .before .before .before .args .t2)) ≤ mostPage
+short-enough c =
+    let l = c .before in
+    omega (arith, c .width .ensures .0, c .width .ensures .1, ap length (whole l), ap length (lines-joined (l .before .before .args .t2) (l .lesser .result)))
 
 -- ---- at the loop's head
 abbrev lines : tie.At-loop Inv-loop μ-loop → List Line
@@ -91,7 +97,7 @@ returns c =
     let a = c .before .before .before .before .args in
     let n = c .before .before .lesser .result in
     let short : length (a .out .now) < length (pageText (a .most) (a .t2)) = omega (arith, ap length (whole (c .before .before)), ap length (lines-joined (a .t2) n)) in
-    (written-short (pageText (a .most) (a .t2)) (a .out .now) short, put-short (pageText (a .most) (a .t2)) (a .out .now) short)
+    (written-short (pageText (a .most) (a .t2)) (a .out .now) short, put-short (pageText (a .most) (a .t2)) (a .out .now) short, short-enough (c .before))
 
 returns-3 : tie.Need-returns-3 Inv-loop μ-loop
 returns-3 c =
@@ -104,6 +110,7 @@ returns-3 c =
     let bytes : l .loop .at ≡ length (pageText (a .most) (a .t2)) = omega (arith, d .place, s) in (
       ap wrote bytes ∙ written-fits (pageText (a .most) (a .t2)) (a .out .now) enough,
       d .same ∙ ap (λ t. sets (a .out .now) 0 t) text ∙ put-fits (pageText (a .most) (a .t2)) (a .out .now) enough,
+      short-enough (l .before .before),
     )
 
 pub page-spec : {M : Type 1} → statement M

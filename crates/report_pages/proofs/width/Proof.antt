@@ -35,7 +35,7 @@ returns c =
     let l = c .before in
     let a = l .before .args in
     let whole = ap length (left-all (pieces (a .t1) (a .count)) ∙ lines-joined (a .t1) (a .count)) in
-    omega (arith, sum-none lineOf (a .t1) (a .count) (within l) (l .loop .i) (c .loop-test .left), whole)
+    (omega (arith, sum-none lineOf (a .t1) (a .count) (within l) (l .loop .i) (c .loop-test .left), whole), omega arith)
 
 pub width-spec : {M : Type 1} → statement M
 width-spec =

@@ -18,9 +18,8 @@ run-file-spec =
     (λ c. search needs)
     (λ c. search needs)
     (λ c. tt)
-    (λ c κs. tt)
-    (λ c. tt)
     (λ c. search needs)
     slice-aggregate-run
     (λ c κs. tt)
+    (λ c. tt)
     (λ c. tt))

@@ -1,0 +1,113 @@
+-- Each wrong call breaks what is asked.
+use Prim.Native.Nat.{ℕ, zero, suc, _<_}
+use mathlib.Core.Path.{_≡_, refl, sym, ap, _∙_, subst}
+use mathlib.Core.List.{List, [], _∷_}
+use native.Mathlib.Omega.{arith}
+use lib.ListN.{getD}
+use borrow.Author.Needs.{needs}
+use Rattle.log_number.specs.Promises.{Bytes}
+use Rattle.state_parts.specs.declared.state.Model.the-variants.{Off}
+use Rattle.log_event.specs.declared.Event.{Event}
+use Rattle.log_event.specs.declared.Event.the-variants.{PowerOn}
+use Rattle.log_record.specs.Logs.{spellLog}
+use Rattle.step_turns.specs.Ranges.{profileInRange}
+use Rattle.step_turns.specs.Turns.{turnOf}
+use Rattle.c_image.specs.Images.{zeros, imageOf}
+use Rattle.c_image.proofs.ImageLaws.{loads-back}
+use Rattle.c_calls.specs.Landing.{Left, Both, both, answered, readyOf}
+use Rattle.c_calls.specs.Playing.{eventCallOf}
+use Rattle.c_calls.specs.Promises.{Calls, RefusalLeaves}
+use Rattle.c_calls.specs.declared.answer.Answer.{Answer}
+use Rattle.laws_format.specs.Readers.{SpelledAt}
+use Rattle.laws_format.proofs.Examples.{paper-bytes}
+use Rattle.laws_account.specs.History.{Run}
+use Rattle.laws_account.specs.Refused.{none, some, nextOf, pastOf}
+use Rattle.laws_heads.specs.Given.{at-end, played, ReplayGives, stops, goes-on}
+use Rattle.laws_heads.specs.Moved.{Moved, off, play, replay}
+use Rattle.laws_heads.specs.Third.{ThirdOfImages}
+use Rattle.laws_heads.specs.Wrong.{butLast, replaysButLast, playsUnstored, zeroed, zeroesWhenRefused, HeadsRefuted}
+use Rattle.laws_heads.proofs.Givens.{all-read}
+
+-- the paper's power-on, and a log of it alone
+abbrev power : Event
+power = PowerOn (record { cell = 2; vchg = 5; ichg = 4; ohms = 0; stamp = 0; ceiling = 4500; trickle = 3600; precharge = 7200; fast = 36000; watchdog = 0 })
+
+abbrev first : List ℕ
+first = 0x01 ∷ 0x02 ∷ 0x05 ∷ 0x04 ∷ 0x00 ∷ 0x00 ∷ 0x94 ∷ 0x23 ∷ 0x90 ∷ 0x1C ∷ 0xA0 ∷ 0x38 ∷ 0xA0 ∷ 0x99 ∷ 0x02 ∷ 0x00 ∷ []
+
+abbrev Low : List ℕ → Type 0
+Low [] = Unit {0}
+Low (b ∷ s) = (b < 256) × Low s
+
+low-bytes : (s : List ℕ) → Low s → Bytes s
+low-bytes [] h i = omega arith
+low-bytes (b ∷ s) h zero = h .0
+low-bytes (b ∷ s) h (suc i) = low-bytes s (h .1) i
+
+bytes-there : Bytes first
+bytes-there = low-bytes first (search needs)
+
+stands-there : SpelledAt first 0 power 16
+stands-there = record { spelling = first; spells = paper-bytes .powerOn; long = refl; start = refl }
+
+left-none : pastOf none [] ≡ none
+unfolding pastOf
+left-none = refl
+
+left-some : (r : Run) × (pastOf none (power ∷ []) ≡ some r)
+unfolding pastOf nextOf turnOf profileInRange
+left-some = (_, refl)
+
+-- one image can't be left both by nothing and by a power-on
+module _ (calls : Calls) (third : ThirdOfImages calls) (image : List ℕ) (by-none : Moved calls [] image) (by-power : Moved calls (power ∷ []) image) where
+  clash : ⊥
+  clash =
+      let on = third .report (power ∷ []) image by-power (left-some .0) (left-some .1) (zeros 24) (omega arith) .answers in
+      let unpowered = ap (λ (l : Left Answer). l .answer .number) (third .before [] image by-none left-none (zeros 24) (omega arith)) in
+      let z : _≡_ {A = ℕ} 0 6 = sym on ∙ unpowered in
+      omega arith
+
+-- the image of a model that is off, and the log from its start on
+module _ (calls : Calls) where
+  abbrev start : List ℕ
+  start = calls .off (zeros 216) .bytes
+
+  unstored : ¬ ThirdOfImages (playsUnstored calls)
+  unstored third =
+      clash (playsUnstored calls) third start (off (zeros 216) refl)
+      (play [] start (off (zeros 216) refl) first bytes-there 0 (zeros 28) (power ∷ []) (played power 16 stands-there (omega arith)))
+
+  one-record : ReplayGives first 0 (power ∷ [])
+  one-record = goes-on 0 power 16 [] stands-there (stops 16 (at-end (omega arith)))
+
+  no-record : ReplayGives [] 0 []
+  no-record = stops 0 (at-end (omega arith))
+
+  -- with or without its one record the log is replayed as an empty one
+  cut : (log : List ℕ) (es : List Event) → Bytes log → ReplayGives log 0 es → butLast es ≡ [] → replaysButLast calls .replay start log 0 .bytes ≡ calls .replay start (spellLog []) 0 .bytes
+  cut log es bs g e = ap (λ fs. calls .replay start (spellLog (butLast fs)) 0 .bytes) (all-read bs g) ∙ ap (λ fs. calls .replay start (spellLog fs) 0 .bytes) e
+
+  moved-by : (log : List ℕ) (es : List Event) → Bytes log → ReplayGives log 0 es → butLast es ≡ [] → Moved (replaysButLast calls) es (calls .replay start (spellLog []) 0 .bytes)
+  moved-by log es bs g e = subst (λ image. Moved (replaysButLast calls) es image) (cut log es bs g e) (replay [] start (off (zeros 216) refl) log bs 0 es g)
+
+  lost : ¬ ThirdOfImages (replaysButLast calls)
+  lost third =
+      clash (replaysButLast calls) third (calls .replay start (spellLog []) 0 .bytes) (moved-by [] [] (λ i. omega arith) no-record refl) (moved-by first (power ∷ []) bytes-there one-record refl)
+
+-- an answer buffer of one byte is too short
+too-short : eventCallOf (imageOf Off) 6 [] (1 ∷ []) ≡ both (answered 12) (imageOf Off) (1 ∷ [])
+unfolding eventCallOf readyOf
+too-short = rw (loads-back Off tt)
+
+zeroed-there : zeroed (eventCallOf (imageOf Off) 6 [] (1 ∷ [])) ≡ both (answered 12) (imageOf Off) (0 ∷ [])
+zeroed-there = rw too-short
+
+spills : (calls : Calls) → ¬ RefusalLeaves (zeroesWhenRefused calls)
+spills calls leaves =
+    let number : zeroed (eventCallOf (imageOf Off) 6 [] (1 ∷ [])) .answer .number ≡ 12 = ap (λ (l : Both Answer). l .answer .number) zeroed-there in
+    let kept = leaves .event (imageOf Off) 6 [] (1 ∷ []) (λ z. omega (arith, z, number)) .shown in
+    let z : _≡_ {A = ℕ} 0 1 = ap (λ s. getD s 0 0) (sym (ap (λ (l : Both Answer). l .shown) zeroed-there) ∙ kept) in
+    omega arith
+
+pub heads-refuted : HeadsRefuted
+heads-refuted = record { lastRecord = lost; notStored = unstored; spilled = spills }

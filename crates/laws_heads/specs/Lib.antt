@@ -1,0 +1,5 @@
+-- The definitions of the crate `laws_heads`.
+pub mod Given
+pub mod Moved
+pub mod Third
+pub mod Wrong
