@@ -6,3 +6,4 @@ mod Plays
 mod Replays
 mod Shows
 mod Writes
+pub mod Contracts

@@ -1,6 +1,5 @@
 // The call that reads two logs side by side.
-ghost use mathlib.Core.Path.{_≡_};
-ghost use Rattle.c_calls.specs.Comparing.{compareCallOf};
+ghost use Rattle.c_calls.specs.Contracts.{ComparePromise};
 use crate::answer::ComparedLogs;
 use base::refusal;
 use log_pairs::answer::Compared;
@@ -8,7 +7,7 @@ use log_pairs::answer::Compared;
 // Reads two logs side by side.
 #[no_mangle]
 pub extern "C" fn cheukdane_compare(first: &[u8], second: &[u8]) -> ComparedLogs
-    ensures { λ r. ⌜ r ≡ compareCallOf (now (first .entry)) (now (second .entry)) ⌝ }
+    ensures { λ r. ⌜ ComparePromise (now (first .entry)) (now (second .entry)) r ⌝ }
 {
     let compared = log_pairs::compare(first, second);
     match compared {

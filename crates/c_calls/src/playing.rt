@@ -1,8 +1,8 @@
 // The calls that move the model of an image.
 ghost use mathlib.Core.Path.{_≡_};
 ghost use Rattle.log_record.specs.Records.{readTold};
-ghost use Rattle.c_calls.specs.Landing.{left, both};
-ghost use Rattle.c_calls.specs.Playing.{offOf, stoppedOf, playOf, eventCallOf};
+ghost use Rattle.c_calls.specs.Playing.{stoppedOf};
+ghost use Rattle.c_calls.specs.Contracts.{OffPromise, PlayPromise, EventPromise};
 use crate::answer::Answer;
 use crate::answer::Played;
 use crate::landing;
@@ -17,7 +17,7 @@ use step_event::replaying;
 // Makes the image of a model before its power-on.
 #[no_mangle]
 pub extern "C" fn cheukdane_off(image: &mut [u8]) -> Answer
-    ensures { λ r. ⌜ left r (now (image .exit)) ≡ offOf (now (image .entry)) ⌝ }
+    ensures { λ r. ⌜ OffPromise (now (image .entry)) r (now (image .exit)) ⌝ }
 {
     if c_image::save(image, Model::Off) {
         Answer {
@@ -69,7 +69,7 @@ pub extern "C" fn cheukdane_play(
     place: usize,
     shown: &mut [u8],
 ) -> Played
-    ensures { λ r. ⌜ both r (now (image .exit)) (now (shown .exit)) ≡ playOf (now (image .entry)) (now (log .entry)) place (now (shown .entry)) ⌝ }
+    ensures { λ r. ⌜ PlayPromise (now (image .entry)) (now (log .entry)) place (now (shown .entry)) r (now (image .exit)) (now (shown .exit)) ⌝ }
 {
     let ready = landing::begin(&image[..], shown.len(), 28);
     match ready {
@@ -107,7 +107,7 @@ pub extern "C" fn cheukdane_event(
     bytes: &[u8],
     shown: &mut [u8],
 ) -> Answer
-    ensures { λ r. ⌜ both r (now (image .exit)) (now (shown .exit)) ≡ eventCallOf (now (image .entry)) kind (now (bytes .entry)) (now (shown .entry)) ⌝ }
+    ensures { λ r. ⌜ EventPromise (now (image .entry)) kind (now (bytes .entry)) (now (shown .entry)) r (now (image .exit)) (now (shown .exit)) ⌝ }
 {
     let ready = landing::begin(&image[..], shown.len(), 28);
     match ready {

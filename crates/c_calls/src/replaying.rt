@@ -1,7 +1,5 @@
 // The call that plays a log's records from a place on.
-ghost use mathlib.Core.Path.{_≡_};
-ghost use Rattle.c_calls.specs.Landing.{left};
-ghost use Rattle.c_calls.specs.Replaying.{replayOf};
+ghost use Rattle.c_calls.specs.Contracts.{ReplayPromise};
 use crate::answer::Replayed;
 use c_image::Loaded;
 use step_event::replaying;
@@ -10,7 +8,7 @@ use step_event::walking::Walk;
 // Plays every record of a log from a place on.
 #[no_mangle]
 pub extern "C" fn cheukdane_replay(image: &mut [u8], log: &[u8], place: usize) -> Replayed
-    ensures { λ r. ⌜ left r (now (image .exit)) ≡ replayOf (now (image .entry)) (now (log .entry)) place ⌝ }
+    ensures { λ r. ⌜ ReplayPromise (now (image .entry)) (now (log .entry)) place r (now (image .exit)) ⌝ }
 {
     let loaded = c_image::load(&image[..]);
     match loaded {

@@ -1,6 +1,5 @@
 // The number of the rules: what a log means to this library.
-ghost use mathlib.Core.Path.{_≡_};
-ghost use Rattle.c_calls.specs.Rules.{rulesNumber};
+ghost use Rattle.c_calls.specs.Contracts.{RulesPromise};
 
 // Every landing that changes what a log means gives it another number.
 const RULES: u32 = 1;
@@ -8,7 +7,7 @@ const RULES: u32 = 1;
 // The number of the rules by which this library judges a log.
 #[no_mangle]
 pub extern "C" fn cheukdane_rules() -> u32
-    ensures { λ r. ⌜ r ≡ rulesNumber ⌝ }
+    ensures { λ r. ⌜ RulesPromise r ⌝ }
 {
     RULES
 }

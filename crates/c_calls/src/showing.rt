@@ -1,7 +1,7 @@
 // The calls that look at the model of an image.
 ghost use mathlib.Core.Path.{_≡_};
-ghost use Rattle.c_calls.specs.Landing.{left};
-ghost use Rattle.c_calls.specs.Showing.{reportNumbers, reportCallOf, registerOf, byteTold};
+ghost use Rattle.c_calls.specs.Showing.{reportNumbers, byteTold};
+ghost use Rattle.c_calls.specs.Contracts.{ReportPromise, RegisterPromise};
 ghost use Rattle.state_registers.specs.Reads.{registerTold};
 use crate::answer::Answer;
 use crate::answer::Byte;
@@ -39,7 +39,7 @@ fn report_numbers(s: State) -> Report
 // The report, the flags and STAT of the model as it stands.
 #[no_mangle]
 pub extern "C" fn cheukdane_report(image: &[u8], report: &mut [u8]) -> Answer
-    ensures { λ r. ⌜ left r (now (report .exit)) ≡ reportCallOf (now (image .entry)) (now (report .entry)) ⌝ }
+    ensures { λ r. ⌜ ReportPromise (now (image .entry)) (now (report .entry)) r (now (report .exit)) ⌝ }
 {
     let ready = landing::begin(image, report.len(), 24);
     match ready {
@@ -88,7 +88,7 @@ fn byte_of(got: ReadAnswer) -> Byte
 // A register's byte.
 #[no_mangle]
 pub extern "C" fn cheukdane_register(image: &[u8], address: u32) -> Byte
-    ensures { λ r. ⌜ r ≡ registerOf (now (image .entry)) address ⌝ }
+    ensures { λ r. ⌜ RegisterPromise (now (image .entry)) address r ⌝ }
 {
     let loaded = c_image::load(image);
     match loaded {

@@ -1,7 +1,5 @@
 // The call that writes an event's record.
-ghost use mathlib.Core.Path.{_≡_};
-ghost use Rattle.c_calls.specs.Landing.{left};
-ghost use Rattle.c_calls.specs.Writing.{writeCallOf};
+ghost use Rattle.c_calls.specs.Contracts.{WritePromise};
 use crate::answer::Put;
 use base::refusal;
 use base::written::Written;
@@ -10,7 +8,7 @@ use c_event::Given;
 // Writes an event's record at the start of `out`.
 #[no_mangle]
 pub extern "C" fn cheukdane_write(kind: u32, bytes: &[u8], out: &mut [u8]) -> Put
-    ensures { λ r. ⌜ left r (now (out .exit)) ≡ writeCallOf kind (now (bytes .entry)) (now (out .entry)) ⌝ }
+    ensures { λ r. ⌜ WritePromise kind (now (bytes .entry)) (now (out .entry)) r (now (out .exit)) ⌝ }
 {
     let got = c_event::event_of(kind, bytes);
     match got {

@@ -6,13 +6,8 @@ use Rattle.log_event.specs.Events.{kindOf, itemsOf}
 use Rattle.log_event.specs.Items.{AllFit, values}
 use Rattle.log_event.specs.declared.Event.{Event}
 use Rattle.c_words.specs.Words.{bytesOf}
-use Rattle.c_event.specs.Given.{givenTold, givenOf}
-use Rattle.c_event.specs.declared.Given.{Given}
+use Rattle.c_event.specs.Given.{givenOf}
 
 -- every event is given by its kind and its numbers' words
 abbrev pub EveryGiven : Type 0
 EveryGiven = (e : Event) → AllFit (itemsOf e) → givenOf (kindByte (kindOf e)) (bytesOf (values (itemsOf e))) ≡ accepted e
-
--- what is told of an answer settles it
-abbrev pub OneAnswer : Type 0
-OneAnswer = (a b : Given) → givenTold a ≡ givenTold b → a ≡ b

@@ -1,6 +1,5 @@
 // An event given outside a log: its kind, and the kind's numbers as words.
-ghost use mathlib.Core.Path.{_≡_};
-ghost use Rattle.c_event.specs.Given.{givenTold, givenOf};
+ghost use Rattle.c_event.specs.Contracts.{EventOfPromise};
 use base::refusal::Refusal;
 use log_event::Event;
 use log_event::fields;
@@ -15,7 +14,7 @@ pub enum Given {
 
 // The event of a kind and its words.
 pub fn event_of(kind: u32, bytes: &[u8]) -> Given
-    ensures { λ r. ⌜ givenTold r ≡ givenOf kind (now (bytes .entry)) ⌝ }
+    ensures { λ r. ⌜ EventOfPromise kind (now (bytes .entry)) r ⌝ }
 {
     if 255 < kind {
         return Given::Refused(Refusal::UnknownKind);

@@ -18,9 +18,8 @@ use Rattle.c_list.specs.Numbers.{stateNumbers}
 use Rattle.c_list.proofs.Lengths.{state-long}
 use Rattle.c_list.proofs.Again.{made-again}
 use Rattle.c_list.specs.Places.{stateCount}
-use Rattle.c_image.specs.Images.{zeros, imageFormat, imageLength, modelNumbers, imageOf, modelFrom, modelIn}
-use Rattle.c_image.specs.Promises.{Storable, LoadsBack, OneImage, ImageLong, ImagesDiffer, FormatNotZero, OffIsZeros, OtherFormat, OneAnswer}
-use Rattle.c_image.specs.declared.Loaded.the-variants.{Held, NoImage}
+use Rattle.c_image.specs.Images.{imageFormat, imageLength, modelNumbers, imageOf, modelFrom, modelIn}
+use Rattle.c_image.specs.Promises.{Storable, LoadsBack, OneImage, ImageLong, ImagesDiffer, FormatNotZero, OffIsZeros, OtherFormat}
 
 pub format-not-zero : FormatNotZero
 format-not-zero e = omega arith
@@ -101,9 +100,3 @@ unfolding modelIn
 other-format bytes off other =
     let m = modelFrom bytes in
     told-other (sameBytes (imageOf m) bytes) bytes (imageOf m) m (same-told .told (imageOf m) bytes) refl off other
-
-pub loaded-one : OneAnswer
-loaded-one (Held m) (Held n) e = cc
-loaded-one (Held m) NoImage e = absurd (let z : _≡_ {A = ℕ} 0 1 = cc in omega arith)
-loaded-one NoImage (Held n) e = absurd (let z : _≡_ {A = ℕ} 0 1 = cc in omega arith)
-loaded-one NoImage NoImage e = refl

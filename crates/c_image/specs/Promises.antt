@@ -11,8 +11,7 @@ use Rattle.c_words.specs.Words.{wordAt}
 use Rattle.c_words.specs.Promises.{AllWords}
 use Rattle.c_list.specs.Promises.{Stored}
 use Rattle.c_list.specs.Numbers.{stateNumbers}
-use Rattle.c_image.specs.Images.{zeros, imageFormat, imageOf, modelIn, loadedTold}
-use Rattle.c_image.specs.declared.Loaded.{Loaded}
+use Rattle.c_image.specs.Images.{zeros, imageFormat, imageOf, modelIn}
 
 -- every number of the model has 32 bits, every stored byte eight and the flags twelve
 abbrev pub Storable : Model → Type 0
@@ -46,7 +45,3 @@ OffIsZeros = imageOf Off ≡ zeros 216
 -- "an image of another format is 5"
 abbrev pub OtherFormat : Type 0
 OtherFormat = (bytes : List ℕ) → wordAt bytes 0 ≢ 0 → wordAt bytes 0 ≢ imageFormat → modelIn bytes ≡ refused 5
-
--- what is told of an answer settles it
-abbrev pub OneAnswer : Type 0
-OneAnswer = (a b : Loaded) → loadedTold a ≡ loadedTold b → a ≡ b

@@ -8,7 +8,8 @@ ghost use mathlib.Core.List.{_∷_};
 ghost use lib.ListN.{length};
 ghost use Rattle.c_words.specs.Words.{bytesOf};
 ghost use Rattle.c_words.specs.Same.{sameBytes};
-ghost use Rattle.c_image.specs.Images.{imageLength, imageOf, modelFrom, modelIn, loadedTold, isLong, savedIn};
+ghost use Rattle.c_image.specs.Images.{imageLength, imageOf, modelFrom};
+ghost use Rattle.c_image.specs.Contracts.{LoadPromise, SavePromise};
 
 // The first word of the image of a model that is on: the number of this list of a state's numbers (`imageFormat`). Never 0, the first word of a model that is off.
 const FORMAT: u32 = 1;
@@ -48,7 +49,7 @@ fn put_model(image: &mut [u8], m: Model)
 
 // Saves a model in a part of an image's length: whether it is of that length. If not, no byte is changed.
 pub fn save(image: &mut [u8], m: Model) -> bool
-    ensures { λ r. ⌜ (r ≡ isLong (now (image .entry))) × (now (image .exit) ≡ savedIn (now (image .entry)) m) ⌝ }
+    ensures { λ r. ⌜ SavePromise (now (image .entry)) m r (now (image .exit)) ⌝ }
 {
     if image.len() != LENGTH {
         return false;
@@ -99,7 +100,7 @@ fn is_image(image: &[u8], m: Model) -> bool
 
 // Loads the model of an image.
 pub fn load(image: &[u8]) -> Loaded
-    ensures { λ r. ⌜ loadedTold r ≡ modelIn (now (image .entry)) ⌝ }
+    ensures { λ r. ⌜ LoadPromise (now (image .entry)) r ⌝ }
 {
     if image.len() != LENGTH {
         return Loaded::NoImage;

@@ -2,3 +2,4 @@
 pub mod WordLaws
 pub mod Sames
 mod Turns
+pub mod Contracts

@@ -6,8 +6,8 @@ use base::written::Written;
 ghost use mathlib.Core.Path.{_≡_};
 ghost use Prim.Native.Nat.{_+_, _*_, _^_, _≤_, _<_};
 ghost use lib.ListN.{length, getD};
-ghost use Rattle.base.specs.Writing.{put, written, writtenTold};
-ghost use Rattle.c_words.specs.Words.{wordBytes, bytesOf, wordAt, wordsIn};
+ghost use Rattle.c_words.specs.Words.{wordBytes, wordAt};
+ghost use Rattle.c_words.specs.Contracts.{ReadPromise, WritePromise};
 
 // A word's bytes.
 type Four = [u8; 4];
@@ -59,7 +59,7 @@ fn word(bytes: &[u8], at: usize) -> u32
 // Reads words that are all there, with no test for each.
 fn read_whole(bytes: &[u8], all: &mut [u32])
     requires { ⌜ length (now all) * 4 ≤ length (now bytes) ⌝ }
-    ensures { λ r. ⌜ now (all .exit) ≡ wordsIn (length (now (all .entry))) (now (bytes .entry)) ⌝ }
+    ensures { λ r. ⌜ ReadPromise (now (bytes .entry)) (now (all .entry)) (now (all .exit)) ⌝ }
 {
     let mut i: usize = 0;
     while i < all.len() {
@@ -70,7 +70,7 @@ fn read_whole(bytes: &[u8], all: &mut [u32])
 
 // Reads words that may run past the bytes' end.
 fn read_past(bytes: &[u8], all: &mut [u32])
-    ensures { λ r. ⌜ now (all .exit) ≡ wordsIn (length (now (all .entry))) (now (bytes .entry)) ⌝ }
+    ensures { λ r. ⌜ ReadPromise (now (bytes .entry)) (now (all .entry)) (now (all .exit)) ⌝ }
 {
     let mut i: usize = 0;
     while i < all.len() {
@@ -81,7 +81,7 @@ fn read_past(bytes: &[u8], all: &mut [u32])
 
 // Reads as many words as `all` has room for, from the bytes' start on.
 pub fn read(bytes: &[u8], all: &mut [u32])
-    ensures { λ r. ⌜ now (all .exit) ≡ wordsIn (length (now (all .entry))) (now (bytes .entry)) ⌝ }
+    ensures { λ r. ⌜ ReadPromise (now (bytes .entry)) (now (all .entry)) (now (all .exit)) ⌝ }
 {
     if all.len() <= bytes.len() / 4 {
         read_whole(bytes, all)
@@ -103,7 +103,7 @@ fn bytes_of(n: u32) -> Four
 
 // Writes words at the start of `out`, or nothing if they do not fit.
 pub fn write(out: &mut [u8], all: &[u32]) -> Written
-    ensures { λ r. ⌜ (writtenTold r ≡ written (bytesOf (now (all .entry))) (now (out .entry))) × (now (out .exit) ≡ put (bytesOf (now (all .entry))) (now (out .entry))) ⌝ }
+    ensures { λ r. ⌜ WritePromise (now (all .entry)) (now (out .entry)) r (now (out .exit)) ⌝ }
 {
     if out.len() / 4 < all.len() {
         return Written::Refused(Refusal::NoRoom);

@@ -1,3 +1,2 @@
 -- The definitions of the crate `laws_outcome`.
-pub mod One
 pub mod Calls

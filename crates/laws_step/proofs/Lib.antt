@@ -2,5 +2,4 @@
 pub mod InRanges
 pub mod Given
 pub mod Sums
-pub mod Answers
 pub mod TakenFlags

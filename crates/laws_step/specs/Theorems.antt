@@ -17,9 +17,8 @@ use Rattle.step_turns.specs.declared.later.Later.the-variants.{Observe}
 use Rattle.step_turns.specs.declared.turn.Turn.the-variants.{Follows}
 use Rattle.settle_all.specs.Settle.{settleOf}
 use Rattle.step_event.specs.Clock.{observedOf}
-use Rattle.step_kinds.specs.Answers.{Outcome, steppedTold}
+use Rattle.step_kinds.specs.Answers.{Outcome}
 use Rattle.step_event.specs.Steps.{turnedBy, stepOf}
-use Rattle.step_kinds.specs.declared.answer.Stepped.{Stepped}
 use Rattle.laws_step.specs.Rows.{Among, Row}
 
 -- "Given exactly when": each number but 0, which is an accepted event's, exactly when one of its rows says so
@@ -48,10 +47,6 @@ pub record SumsFit (s : State) (x : Sample) : Type 0 where
 
 abbrev pub NoSumWraps : Type 0
 NoSumWraps = (s : State) (x : Sample) → sampleOk x ≡ true → turnedBy (On s) (Follows (Observe x)) .number ≡ 0 → SumsFit s x
-
--- "equal inputs allow one outcome": what the contract tells of an answer settles it
-abbrev pub StepOnce : Type 0
-StepOnce = (a b : Stepped) → steppedTold a ≡ steppedTold b → a ≡ b
 
 -- "Settling with neither a new event nor time changes nothing.": so of every state that an accepted event makes
 abbrev pub StepSettles : Type 0

@@ -1,2 +1,3 @@
 -- The laws of the crate `report_pages`.
 mod Writing
+pub mod Contracts

@@ -1,7 +1,8 @@
 // The report: phase, charge current, charge voltage and input limit.
 ghost use mathlib.Core.Path.{_≡_};
 ghost use Prim.Native.Nat.{min};
-ghost use Rattle.report_state.specs.Report.{chargeClampOf, fastCurrent, trickleCurrent, currentIn, inputLimitOf, reportOf};
+ghost use Rattle.report_state.specs.Report.{chargeClampOf, fastCurrent, trickleCurrent, currentIn, inputLimitOf};
+ghost use Rattle.report_state.specs.Contracts.{ReportPromise};
 use crate::answer::Report;
 use base::choice;
 use base::volts;
@@ -80,7 +81,7 @@ fn input_limit(profile: Profile, settings: Settings) -> u32
 
 // What the model reports.
 pub fn report(state: State) -> Report
-    ensures { λ r. ⌜ r ≡ reportOf state ⌝ }
+    ensures { λ r. ⌜ ReportPromise state r ⌝ }
 {
     let profile = state.profile;
     let settings = state.settings;

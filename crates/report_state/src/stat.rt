@@ -1,7 +1,8 @@
 // The STAT pin.
 ghost use mathlib.Core.Path.{_≡_};
 ghost use Rattle.base.specs.Pick.{pick};
-ghost use Rattle.report_state.specs.Stats.{statIn, statOf, statNumber};
+ghost use Rattle.report_state.specs.Stats.{statIn, statNumber};
+ghost use Rattle.report_state.specs.Contracts.{StatPromise};
 use crate::answer::Stat;
 use state_parts::phase;
 use state_parts::phase::Phase;
@@ -24,7 +25,7 @@ fn choose_stat(test: bool, first: Stat, second: Stat) -> Stat
 
 // What the STAT pin shows.
 pub fn stat(state: State) -> Stat
-    ensures { λ r. ⌜ r ≡ statOf state ⌝ }
+    ensures { λ r. ⌜ StatPromise state r ⌝ }
 {
     let settings = state.settings;
     let disabled = settings.disstat;

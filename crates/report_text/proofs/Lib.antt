@@ -7,3 +7,4 @@ pub mod ReadBack
 pub mod Sizes
 pub mod Outcomes
 pub mod Rows
+pub mod Contracts

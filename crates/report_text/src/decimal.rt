@@ -2,12 +2,13 @@
 ghost use mathlib.Core.Path.{_≡_};
 ghost use Prim.Native.Nat.{_≤_};
 ghost use lib.ListN.{length};
-ghost use Rattle.report_text.specs.Decimal.{decimal, mostDigits};
+ghost use Rattle.report_text.specs.Decimal.{decimal};
+ghost use Rattle.report_text.specs.Contracts.{WidthPromise};
 ghost use Rattle.report_text.specs.Writing.{over};
 
 // How many bytes a number's text has.
 pub fn width(n: u32) -> usize
-    ensures { λ r. ⌜ (r ≡ length (decimal n)) × (r ≤ mostDigits) ⌝ }
+    ensures { λ r. ⌜ WidthPromise n r ⌝ }
 {
     let mut digits: usize = 1;
     let mut rest = n;

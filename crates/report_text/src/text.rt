@@ -3,8 +3,8 @@ ghost use mathlib.Core.Path.{_≡_};
 ghost use mathlib.Core.List.{[], _∷_};
 ghost use Prim.Native.Nat.{_≤_};
 ghost use lib.ListN.{length};
-ghost use Rattle.report_text.specs.Text.{lineText, lineCount, mostLine, low32, headedText, endText};
-ghost use Rattle.base.specs.Writing.{written, writtenTold, put};
+ghost use Rattle.report_text.specs.Text.{lineCount, low32};
+ghost use Rattle.report_text.specs.Contracts.{LineWidthPromise, LinePromise, HeadedPromise, EndPromise};
 ghost use Rattle.report_text.specs.Writing.{over};
 use crate::numbers;
 use base::refusal::Refusal;
@@ -19,7 +19,7 @@ pub type EndNumbers = [u32; 3];
 // A line of no more numbers than a record's has.
 fn whole(out: &mut [u8], numbers: &[u32]) -> Written
     requires { ⌜ length (now numbers) ≤ lineCount ⌝ }
-    ensures { λ r. ⌜ (writtenTold r ≡ written (lineText (now (numbers .entry))) (now (out .entry))) × (now (out .exit) ≡ put (lineText (now (numbers .entry))) (now (out .entry))) ⌝ }
+    ensures { λ r. ⌜ LinePromise (now (numbers .entry)) (now (out .entry)) r (now (out .exit)) ⌝ }
 {
     let bytes = numbers::width(numbers);
     if out.len() < bytes {
@@ -31,14 +31,14 @@ fn whole(out: &mut [u8], numbers: &[u32]) -> Written
 
 // How many bytes a record's line has.
 pub fn line_width(numbers: LineNumbers) -> usize
-    ensures { λ r. ⌜ (r ≡ length (lineText numbers)) × (r ≤ mostLine) ⌝ }
+    ensures { λ r. ⌜ LineWidthPromise numbers r ⌝ }
 {
     numbers::width(&numbers)
 }
 
 // A record's line.
 pub fn line(out: &mut [u8], numbers: LineNumbers) -> Written
-    ensures { λ r. ⌜ (writtenTold r ≡ written (lineText numbers) (now (out .entry))) × (now (out .exit) ≡ put (lineText numbers) (now (out .entry))) ⌝ }
+    ensures { λ r. ⌜ LinePromise numbers (now (out .entry)) r (now (out .exit)) ⌝ }
 {
     whole(out, &numbers)
 }
@@ -58,7 +58,7 @@ fn put_word(out: &mut [u8], word: &[u8])
 // A word, and a line of no more numbers than a record's has in the rest of the part.
 fn headed(out: &mut [u8], word: &[u8], numbers: &[u32]) -> Written
     requires { ⌜ length (now numbers) ≤ lineCount ⌝ }
-    ensures { λ r. ⌜ (writtenTold r ≡ written (headedText (now (word .entry)) (now (numbers .entry))) (now (out .entry))) × (now (out .exit) ≡ put (headedText (now (word .entry)) (now (numbers .entry))) (now (out .entry))) ⌝ }
+    ensures { λ r. ⌜ HeadedPromise (now (word .entry)) (now (numbers .entry)) (now (out .entry)) r (now (out .exit)) ⌝ }
 {
     let start = word.len();
     if out.len() < start {
@@ -75,7 +75,7 @@ fn headed(out: &mut [u8], word: &[u8], numbers: &[u32]) -> Written
 
 // A word and one number.
 pub fn one(out: &mut [u8], word: &[u8], number: u32) -> Written
-    ensures { λ r. ⌜ (writtenTold r ≡ written (headedText (now (word .entry)) (number ∷ [])) (now (out .entry))) × (now (out .exit) ≡ put (headedText (now (word .entry)) (number ∷ [])) (now (out .entry))) ⌝ }
+    ensures { λ r. ⌜ HeadedPromise (now (word .entry)) (number ∷ []) (now (out .entry)) r (now (out .exit)) ⌝ }
 {
     let numbers = [number];
     headed(out, word, &numbers)
@@ -83,14 +83,14 @@ pub fn one(out: &mut [u8], word: &[u8], number: u32) -> Written
 
 // A word and three numbers.
 pub fn three(out: &mut [u8], word: &[u8], numbers: EndNumbers) -> Written
-    ensures { λ r. ⌜ (writtenTold r ≡ written (headedText (now (word .entry)) numbers) (now (out .entry))) × (now (out .exit) ≡ put (headedText (now (word .entry)) numbers) (now (out .entry))) ⌝ }
+    ensures { λ r. ⌜ HeadedPromise (now (word .entry)) numbers (now (out .entry)) r (now (out .exit)) ⌝ }
 {
     headed(out, word, &numbers)
 }
 
 // The last line.
 pub fn end(out: &mut [u8], numbers: EndNumbers) -> Written
-    ensures { λ r. ⌜ (writtenTold r ≡ written (endText numbers) (now (out .entry))) × (now (out .exit) ≡ put (endText numbers) (now (out .entry))) ⌝ }
+    ensures { λ r. ⌜ EndPromise numbers (now (out .entry)) r (now (out .exit)) ⌝ }
 {
     three(out, b"end ", numbers)
 }

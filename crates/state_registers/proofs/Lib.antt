@@ -4,3 +4,4 @@ pub mod ReadBack
 pub mod Order
 pub mod Leaves
 pub mod Keeps
+pub mod Contracts

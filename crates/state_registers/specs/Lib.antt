@@ -2,3 +2,4 @@
 pub mod Reads
 pub mod Writes
 pub mod Resets
+pub mod Contracts

@@ -2,7 +2,8 @@
 ghost use mathlib.Core.Path.{_≡_};
 ghost use Rattle.base.specs.Pick.{pick};
 ghost use Rattle.base.specs.Told.{accepted, refused};
-ghost use Rattle.state_registers.specs.Reads.{readRegisterOf, registerTold, knownAddress, byteAt, readOf};
+ghost use Rattle.state_registers.specs.Reads.{registerTold, knownAddress, byteAt};
+ghost use Rattle.state_registers.specs.Contracts.{ReadPromise, ReadRegisterPromise};
 use base::refusal::Refusal;
 use state_fields::held;
 use state_parts::state::Model;
@@ -40,7 +41,7 @@ fn answered(there: bool, byte: u8) -> ReadAnswer
 
 // What the host reads at an address.
 pub fn read(s: State, address: u32) -> ReadAnswer
-    ensures { λ r. ⌜ registerTold r ≡ readOf s address ⌝ }
+    ensures { λ r. ⌜ ReadPromise s address r ⌝ }
 {
     let there = known(address);
     let held = byte_at(s, address);
@@ -50,7 +51,7 @@ pub fn read(s: State, address: u32) -> ReadAnswer
 
 // A register of a model: 6 before a power-on, then 10. Nothing changes.
 pub fn read_register(m: Model, address: u32) -> ReadAnswer
-    ensures { λ r. ⌜ registerTold r ≡ readRegisterOf m address ⌝ }
+    ensures { λ r. ⌜ ReadRegisterPromise m address r ⌝ }
 {
     match m {
         Model::Off => ReadAnswer::Refused(Refusal::NotPowered),

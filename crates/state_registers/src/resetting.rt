@@ -1,6 +1,7 @@
 // The register reset.
 ghost use mathlib.Core.Path.{_≡_};
-ghost use Rattle.state_registers.specs.Resets.{resetRegisters, resetOf};
+ghost use Rattle.state_registers.specs.Resets.{resetRegisters};
+ghost use Rattle.state_registers.specs.Contracts.{ResetPromise};
 use state_fields::digits;
 use state_parts::profile::Profile;
 use state_parts::registers::Registers;
@@ -24,7 +25,7 @@ fn restore(p: Profile, g: Registers) -> Registers
 
 // The state after a register reset, before it settles.
 pub fn reset(s: State) -> State
-    ensures { λ r. ⌜ r ≡ resetOf s ⌝ }
+    ensures { λ r. ⌜ ResetPromise s r ⌝ }
 {
     let settings = start_settings(s.profile, s.registers.cells);
     let registers = restore(s.profile, s.registers);

@@ -2,7 +2,8 @@
 ghost use mathlib.Core.Path.{_≡_};
 ghost use Rattle.base.specs.Pick.{pick};
 ghost use Rattle.base.specs.Told.{accepted, refused};
-ghost use Rattle.state_registers.specs.Writes.{writeTold, countTaken, recounted, writtenTo, writeOf};
+ghost use Rattle.state_registers.specs.Writes.{writeTold, countTaken, recounted, writtenTo};
+ghost use Rattle.state_registers.specs.Contracts.{WritePromise};
 use crate::reading::byte_at;
 use crate::reading::known;
 use base::refusal::Refusal;
@@ -89,7 +90,7 @@ fn answered(unknown: bool, large: bool, bad: bool, after: State) -> WriteAnswer
 
 // The host writes a byte at an address.
 pub fn write(s: State, address: u32, byte: u32) -> WriteAnswer
-    ensures { λ r. ⌜ writeTold r ≡ writeOf s address byte ⌝ }
+    ensures { λ r. ⌜ WritePromise s address byte r ⌝ }
 {
     let small = (byte % 256) as u8;
     let there = known(address);

@@ -11,3 +11,5 @@ pub mod Joining
 pub mod Moves
 pub mod Resting
 pub mod Playing
+mod Settled
+pub mod Contracts

@@ -8,3 +8,4 @@ pub mod Wholes
 pub mod Rests
 pub mod Plays
 pub mod Replays
+pub mod Contracts

@@ -2,9 +2,10 @@
 ghost use mathlib.Core.Path.{_≡_};
 ghost use mathlib.Core.Bool.{true};
 ghost use Rattle.state_valid.specs.Holds.{stateOk};
-ghost use Rattle.step_kinds.specs.Answers.{verdictTold, steppedTold};
+ghost use Rattle.step_kinds.specs.Answers.{verdictTold};
 ghost use Rattle.step_kinds.specs.Changes.{changeTold};
 ghost use Rattle.step_event.specs.Steps.{observeOf, followedOf, movedOf, firstOf, changeOf, modelOk, nothingSeen, seenOn, turnedBy, stepOf};
+ghost use Rattle.step_event.specs.Contracts.{StepPromise};
 use crate::clock;
 use base::refusal::Refusal;
 use base::stamp;
@@ -156,7 +157,7 @@ pub(crate) fn step_known(ok: bool, m: Model, e: Event) -> Verdict
 
 // One event on the model.
 pub fn step(m: Model, e: Event) -> Stepped
-    ensures { λ r. ⌜ steppedTold r ≡ stepOf m e ⌝ }
+    ensures { λ r. ⌜ StepPromise m e r ⌝ }
 {
     let verdict = step_known(model_ok(m), m, e);
     match verdict {

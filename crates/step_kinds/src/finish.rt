@@ -1,8 +1,8 @@
 // What every accepted event ends with: it settles, and its edges join the flags and may pulse.
 ghost use mathlib.Core.Path.{_≡_};
 ghost use Rattle.state_parts.specs.With.{withFlags};
-ghost use Rattle.step_kinds.specs.Answers.{finishedTold};
-ghost use Rattle.step_kinds.specs.Finish.{observing, keptBy, handedBy, pulsesBy, finishOf};
+ghost use Rattle.step_kinds.specs.Finish.{observing, keptBy, handedBy, pulsesBy};
+ghost use Rattle.step_kinds.specs.Contracts.{FinishPromise};
 use crate::answer::Finished;
 use crate::change::Way;
 use settle_all::settle;
@@ -70,7 +70,7 @@ fn flagged(s: State, f: u32) -> State
 
 // Settles what an event wrote; `before` is what was seen of the state before it.
 pub fn finish(before: Seen, written: State, way: Way) -> Finished
-    ensures { λ r. ⌜ finishedTold r ≡ finishOf before written way ⌝ }
+    ensures { λ r. ⌜ FinishPromise before written way r ⌝ }
 {
     let held = written.flags;
     let observed = observing(way);

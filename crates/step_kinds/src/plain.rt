@@ -1,8 +1,8 @@
 // The kinds of events that time has no part in: what each writes, or its refusal.
 ghost use mathlib.Core.Path.{_≡_};
 ghost use Rattle.state_parts.specs.With.{withSettings};
-ghost use Rattle.step_kinds.specs.Changes.{changeTold};
-ghost use Rattle.step_kinds.specs.Plain.{openedAs, setOf, writtenOf, servicedOf};
+ghost use Rattle.step_kinds.specs.Plain.{servicedOf};
+ghost use Rattle.step_kinds.specs.Contracts.{OpenedPromise, SetPromise, WritePromise};
 use crate::change::Change;
 use crate::change::Way;
 use base::refusal::Refusal;
@@ -16,7 +16,7 @@ use state_settings::ranges;
 
 // A power-on, whatever the model holds.
 pub fn opened(p: Profile) -> Change
-    ensures { λ r. ⌜ changeTold r ≡ openedAs p ⌝ }
+    ensures { λ r. ⌜ OpenedPromise p r ⌝ }
 {
     Change::Made(state_start::start(p), Way::Powers)
 }
@@ -31,7 +31,7 @@ fn with_settings(s: State, t: Settings) -> State
 }
 
 pub fn set(s: State, number: u32, value: u32) -> Change
-    ensures { λ r. ⌜ changeTold r ≡ setOf s number value ⌝ }
+    ensures { λ r. ⌜ SetPromise s number value r ⌝ }
 {
     let profile = s.profile;
     if !ranges::known(profile, number) {
@@ -46,7 +46,7 @@ pub fn set(s: State, number: u32, value: u32) -> Change
 }
 
 pub fn write(s: State, address: u32, byte: u32) -> Change
-    ensures { λ r. ⌜ changeTold r ≡ writtenOf s address byte ⌝ }
+    ensures { λ r. ⌜ WritePromise s address byte r ⌝ }
 {
     match writing::write(s, address, byte) {
         WriteAnswer::Stored(written) => Change::Made(written, Way::Plain),

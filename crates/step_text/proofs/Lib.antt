@@ -3,3 +3,4 @@ mod Heads
 mod Sizes
 mod Places
 pub mod Printing
+pub mod Contracts

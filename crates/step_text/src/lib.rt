@@ -9,7 +9,8 @@ ghost use Rattle.base.specs.Writing.{put, written, writtenTold};
 ghost use Rattle.report_text.specs.Text.{endText};
 ghost use Rattle.report_pages.specs.Text.{mostPage, pageText};
 ghost use Rattle.step_event.specs.Pages.{stopTold};
-ghost use Rattle.step_text.specs.Prints.{lastText, isOver, nextText, mostText, printTold, toldBy, printedIn};
+ghost use Rattle.step_text.specs.Prints.{lastText, isOver, mostText, printTold, toldBy};
+ghost use Rattle.step_text.specs.Contracts.{PrintPromise};
 use crate::answer::Print;
 use base::refusal;
 use base::refusal::Refusal;
@@ -80,7 +81,7 @@ fn told(put: Written, walk: Walk, over: bool) -> Print
 
 // The next page of what is printed of a log, from a walk on.
 pub fn print(out: &mut [u8], log: &[u8], from: Walk) -> Print
-    ensures { λ r. ⌜ (printTold r ≡ printedIn (nextText (now (log .entry)) from) (now (out .entry))) × (now (out .exit) ≡ put (nextText (now (log .entry)) from .text) (now (out .entry))) × (length (nextText (now (log .entry)) from .text) ≤ mostText) ⌝ }
+    ensures { λ r. ⌜ PrintPromise (now (log .entry)) from (now (out .entry)) r (now (out .exit)) ⌝ }
 {
     if 65536 < log.len() {
         return told(text::end(out, [0, 13, 0]), from, true);
