@@ -17,6 +17,7 @@ use Rattle.c_calls.specs.Promises.{RefusalLeaves, KeepsLengths}
 use Rattle.step_event.specs.Theorems.{Untouched}
 use Rattle.laws_step.specs.Rows.{Among}
 use Rattle.laws_demands.specs.Product.{LogLines, Product}
+use Rattle.laws_demands.specs.Printed.{refusedRun}
 
 -- "Every event .. gets an answer": 0, or a number of the model's order. "a refused event changes [not] the model"
 pub record Answered (m : Model) (o : Outcome) : Type 0 where
@@ -38,7 +39,7 @@ pub data WrittenIn (buffer : List ℕ) : Wrote × List ℕ → Type 0 where
 pub data WalkedIn (bytes : List ℕ) (w : LogLines) : Type 0 where
   whole : w .last ≡ length (w .lines) ∷ 0 ∷ length bytes ∷ [] → WalkedIn bytes w
   stopped : (n at : ℕ) → Among n 1 4 → at < length bytes → w .last ≡ length (w .lines) ∷ n ∷ at ∷ [] → WalkedIn bytes w
-  too-long : 65536 < length bytes → w ≡ record { lines = []; last = 0 ∷ 13 ∷ 0 ∷ [] } → WalkedIn bytes w
+  too-long : 65536 < length bytes → w ≡ refusedRun → WalkedIn bytes w
 
 -- two logs: the rest of one from a place in it, or a number with a record's number and a place at which both go on
 pub data ComparedIn (a b : List ℕ) : Answer → Type 0 where
