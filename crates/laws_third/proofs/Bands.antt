@@ -14,8 +14,7 @@ use Rattle.laws_account.specs.History.{Run}
 use Rattle.laws_account.specs.Held.{profileOf, sampleOf, fieldAt}
 use Rattle.laws_account.specs.Judged.{vbat, bandAt, suspendedIn, suspended, chargeVoltage, tapering}
 use Rattle.laws_account.specs.Refused.{Accepted}
-use Rattle.laws_third.specs.Crossed.{base}
-use Rattle.laws_third.specs.Banded.{Unjudged, FromTh1, ToTh5, FromTh2, ToTh3, InBand, ByBand, OneBand, SuspendingIn, Suspending, cut, Tapering}
+use Rattle.laws_third.specs.Banded.{Unjudged, FromTh1, ToTh5, FromTh2, ToTh3, InBand, ByBand, OneBand, SuspendingIn, Suspending, chargeTo, Tapering}
 use Rattle.laws_third.proofs.Means.{Means, leb-means, eqb-means, and-means, re-means}
 use Rattle.laws_third.proofs.Packs.{cut-plain, base-plain}
 
@@ -122,12 +121,11 @@ unfolding suspended
 suspended-means r = by-band (λ b. SuspendingIn b r) r (suspended-in (bandAt r) r)
 
 -- the charge voltage, in mV
-pub voltage-plain : (r : Run) → Accepted r → millivoltsOf (chargeVoltage r) ≡ base r - cut (bandAt r) r
+pub voltage-plain : (r : Run) → Accepted r → millivoltsOf (chargeVoltage r) ≡ chargeTo (bandAt r) r
 unfolding chargeVoltage
 voltage-plain r a = λ i. base-plain r a i - cut-plain (bandAt r) r a i
 
 pub tapering-means : (r : Run) → Accepted r → Means (tapering r) (Tapering r)
 unfolding tapering vbat
 tapering-means r a =
-    by-band (λ b. base r - cut b r ≤ sampleOf r .pack + 10) r
-    (rw (voltage-plain r a) (leb-means (base r - cut (bandAt r) r) (sampleOf r .pack + 10)))
+    by-band (λ b. chargeTo b r ≤ sampleOf r .pack + 10) r (rw (voltage-plain r a) (leb-means (chargeTo (bandAt r) r) (sampleOf r .pack + 10)))

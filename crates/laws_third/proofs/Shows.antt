@@ -1,5 +1,5 @@
 -- What is reported of the account's state: current and voltage by its phase.
-use Prim.Native.Nat.{ℕ, _*_, _-_, _/_, _≤_, _<_, min}
+use Prim.Native.Nat.{ℕ, _*_, _/_, _≤_, _<_, min}
 use native.Mathlib.Omega.{arith}
 use mathlib.Core.Path.{_≡_, refl, ap, _∙_}
 use mathlib.Core.Bool.{Bool, true, false, false≢true}
@@ -21,8 +21,7 @@ use Rattle.laws_account.specs.Reported.{fastAt}
 use Rattle.laws_account.proofs.Sharing.{share-is, cut-is}
 use Rattle.laws_account.specs.States.{settingsAt, registersAt, stateBy, stateOf}
 use Rattle.laws_account.specs.Refused.{Accepted}
-use Rattle.laws_third.specs.Crossed.{base}
-use Rattle.laws_third.specs.Banded.{cut}
+use Rattle.laws_third.specs.Banded.{chargeTo}
 use Rattle.laws_third.proofs.Bands.{voltage-plain}
 use Rattle.laws_third.proofs.Charges.{stage}
 
@@ -31,12 +30,12 @@ pub current-is : (r : Run) → reportOf (stateOf r) .current ≡ currentIn (phas
 unfolding reportOf fastAt stateBy settingsAt registersAt fastCurrent chargeClampOf chargeClamp
 current-is r = ap (λ share. currentIn (phaseAt r) (trickleCurrent (profileOf r)) (settingOf 3 r) (min (settingOf 2 r) (chargeClamp r) * share / 100)) (share-is (bandAt r) r)
 
-charge-is : (r : Run) → Accepted r → millivoltsOf (chargeVoltageOf (profileOf r) (settingsAt r) (registersAt r) (bandAt r)) ≡ base r - cut (bandAt r) r
+charge-is : (r : Run) → Accepted r → millivoltsOf (chargeVoltageOf (profileOf r) (settingsAt r) (registersAt r) (bandAt r)) ≡ chargeTo (bandAt r) r
 unfolding chargeVoltageOf baseOf packClampOf packClamp settingsAt registersAt baseAt chargeVoltage
 charge-is r a = ap (λ c. millivoltsOf (lessOf (baseAt r) (inPack c (cellsOf r)))) (cut-is (bandAt r) r) ∙ voltage-plain r a
 
 abbrev pub chargeAt : Run → ℕ
-chargeAt r = base r - cut (bandAt r) r
+chargeAt r = chargeTo (bandAt r) r
 
 abbrev pub volts : Run → ℕ
 volts r = millivoltsOf (reportOf (stateOf r) .voltage)

@@ -58,6 +58,10 @@ Suspending m = ByBand (λ b. SuspendingIn b m) m
 abbrev pub cut : Band → Run → ℕ
 cut b m = cutIn b m .0 * cellsOf m
 
--- "4 taper, VBAT + 10 >= charge voltage", which is "base, less .."
+-- "Charge voltage: base, less in warm 250, 100 or 0 per cell": in a band
+abbrev pub chargeTo : Band → Run → ℕ
+chargeTo b m = base m - cut b m
+
+-- "4 taper, VBAT + 10 >= charge voltage"
 abbrev pub Tapering : Run → Type 0
-Tapering m = ByBand (λ b. base m - cut b m ≤ sampleOf m .pack + 10) m
+Tapering m = ByBand (λ b. chargeTo b m ≤ sampleOf m .pack + 10) m

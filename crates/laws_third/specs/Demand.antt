@@ -19,8 +19,8 @@ use Rattle.laws_account.specs.Valued.{settingOf}
 use Rattle.laws_account.specs.Judged.{chargeClamp, shareIn}
 use Rattle.laws_account.specs.Cycles.{Stage}
 use Rattle.laws_account.specs.Refused.{none, some, pastOf}
-use Rattle.laws_third.specs.Crossed.{Short, Low, clamp, base}
-use Rattle.laws_third.specs.Banded.{ByBand, cut}
+use Rattle.laws_third.specs.Crossed.{Short, Low, clamp}
+use Rattle.laws_third.specs.Banded.{ByBand, cut, chargeTo}
 use Rattle.laws_third.specs.Allowed.{Allowed}
 use Rattle.laws_third.specs.Stages.{Reached, Done}
 
@@ -55,7 +55,7 @@ pub record ThirdIn (b : Band) (r : Run) (q : Report) : Type 0 where
   pub settingCut : millivoltsOf (q .voltage) ≤ settingOf 1 r - cut b r
   pub clampedCut : millivoltsOf (q .voltage) ≤ clamp r - cut b r
   -- to the mV: 01, "Phases 1-4 report current and voltage, others zeros. Charge voltage: base, less in warm .."
-  pub voltage : Charging r → millivoltsOf (q .voltage) ≡ base r - cut b r
+  pub voltage : Charging r → millivoltsOf (q .voltage) ≡ chargeTo b r
   pub zero : ¬ Charging r → millivoltsOf (q .voltage) ≡ 0
 
 -- and in the band that holds

@@ -34,10 +34,16 @@ settledOf s k b t = record {
   flags = s .flags;
 }
 
--- pins, then EN_CHG, comparators, band, tests, and the state by them
-unfoldable pub settleOf : State → Bool → State
-settleOf s observed =
+-- pins, then EN_CHG, comparators, band, tests, and the state by them; whatever the tests are
+abbrev pub Tester : Type 0
+Tester = State → Latches → Band → Bool → Tests
+
+abbrev pub settleBy : Tester → State → Bool → State
+settleBy tests s observed =
     let f = forcedOf s in
     let k = latchesOf (f .profile) (f .settings) (f .registers) (f .sample) (f .latches) in
     let b = bandOf (f .profile) (f .registers) (f .sample .ts) in
-    settledOf f k b (testsOf f k b observed)
+    settledOf f k b (tests f k b observed)
+
+unfoldable pub settleOf : State → Bool → State
+settleOf s observed = settleBy testsOf s observed

@@ -22,6 +22,7 @@ use Rattle.step_kinds.specs.Answers.{Outcome, refusedWith}
 use Rattle.step_kinds.specs.Changes.{Changed, changed}
 use Rattle.step_kinds.specs.Finish.{finishOf}
 use Rattle.step_kinds.specs.Plain.{openedAs, setOf, writtenOf, servicedOf}
+use Rattle.step_kinds.specs.declared.change.Way.{Way}
 use Rattle.step_kinds.specs.declared.change.Way.the-variants.{Plain, Observes, Takes}
 use Rattle.step_event.specs.Clock.{observedOf}
 
@@ -82,10 +83,13 @@ unfoldable pub seenOn : Model → Seen
 seenOn Off = nothingSeen
 seenOn (On s) = seenOf s
 
--- a change settles and ends; a refusal leaves the model
+-- a change settles and ends, however that is done; a refusal leaves the model
+abbrev pub endedBy : (Seen → State → Way → Outcome) → Model → Told Changed → Outcome
+endedBy finish m (accepted c) = finish (seenOn m) (c .state) (c .way)
+endedBy finish m (refused number) = refusedWith number m
+
 abbrev pub closedBy : Model → Told Changed → Outcome
-closedBy m (accepted c) = finishOf (seenOn m) (c .state) (c .way)
-closedBy m (refused number) = refusedWith number m
+closedBy = endedBy finishOf
 
 -- what a turn comes to, and so what an event does
 unfoldable pub turnedBy : Model → Turn → Outcome

@@ -40,10 +40,10 @@ pulsesBy Observes edge = edge
 pulsesBy Takes edge = edge
 pulsesBy Powers edge = true
 
--- what was seen of the state before the event, and the state that it wrote, whose flags are still those held before
-unfoldable pub finishOf : Seen → State → Way → Outcome
-finishOf before written way =
-    let after = settleOf written (observing way) in
+-- what was seen of the state before the event, and the state that it wrote, whose flags are still those held before; however it settles
+abbrev pub finishBy : (State → Bool → State) → Seen → State → Way → Outcome
+finishBy settle before written way =
+    let after = settle written (observing way) in
     let edges = edgesOf before (seenOf after) in
     let all = merged (written .flags) edges in
     record {
@@ -53,3 +53,6 @@ finishOf before written way =
       pulse = pulsesBy way (pulseOf edges (after .settings .masks));
       handed = handedBy way all;
     }
+
+unfoldable pub finishOf : Seen → State → Way → Outcome
+finishOf before written way = finishBy settleOf before written way
