@@ -32,7 +32,7 @@ use Rattle.laws_account.specs.History.{Run, powered, _▸_, since}
 use Rattle.step_turns.specs.declared.later.Later.{Later}
 use Rattle.laws_account.specs.Held.{profileOf, sampleOf, wasObserved, wasReset, cellsOf}
 use Rattle.laws_account.specs.Valued.{pinFault, givenBy, settingOf}
-use Rattle.laws_account.specs.Judged.{vbat, packClamp, baseAt, inputOk, inputOver, inputGood, cellPoint, short, low, lowEnds, packOver, bandAt, suspendedIn, suspended, cutIn, chargeVoltage, permitted, tapering, rechargeDue, ending}
+use Rattle.laws_account.specs.Judged.{vbat, packClamp, baseAt, inputOk, inputOver, inputGood, cellPoint, short, low, lowEnds, packOver, bandAt, suspendedIn, suspended, chargeVoltage, permitted, tapering, rechargeDue, ending}
 use Rattle.laws_account.specs.Cycles.{isDone, wasDone, limitFound, fault, phaseAt}
 use Rattle.laws_account.specs.States.{settingsAt, registersAt, latchesAt, watchdogAt}
 use Rattle.laws_account.proofs.Choices.{held-since, forced-since, barred-since}
@@ -138,9 +138,9 @@ module _ (r : Run) (e : Later) where
   unfolding suspendsOf suspended
   suspends-is = suspends-in (bandAt m) m
 
-  recharge-is : belowRecharge (profileOf m) (settingsAt m) (baseOf (profileOf m) (settingsAt m) (registersAt m)) (sampleOf m) ≡ rechargeDue m
+  recharge-is : belowRecharge (profileOf m) (settingsAt m) (chargeVoltageOf (profileOf m) (settingsAt m) (registersAt m) (bandAt m)) (sampleOf m) ≡ rechargeDue m
   unfolding belowRecharge rechargeDue vbat settingsAt
-  recharge-is = ap (λ b. belowRecharge (profileOf m) (settingsAt m) b (sampleOf m)) (base-is m)
+  recharge-is = ap (λ v. belowRecharge (profileOf m) (settingsAt m) v (sampleOf m)) (voltage-is m)
 
   taper-is : taperOf (chargeVoltageOf (profileOf m) (settingsAt m) (registersAt m) (bandAt m)) (sampleOf m) ≡ tapering m
   unfolding taperOf tapering vbat

@@ -1,21 +1,24 @@
 -- One band holds at each moment, the account's; and what the account judges by it means what the demand says of it.
-use Prim.Native.Nat.{_+_, _-_, _≤_}
+use Prim.Native.Nat.{_+_, _*_, _-_, _%_, _≤_, _<_}
 use mathlib.Core.Path.{_≡_, refl, sym, subst, _∙_}
 use mathlib.Core.Logic.{inl, inr}
 use mathlib.Core.Bool.{Bool, true, false, _&&_, false≢true}
 use lib.Dec.{leb, eqb}
 use Rattle.base.specs.Pick.{pick}
+use Rattle.base.specs.Units.{belowShare}
 use Rattle.base.specs.Volts.{millivoltsOf}
 use Rattle.state_parts.specs.declared.band.Band.{Band}
 use Rattle.state_parts.specs.declared.band.Band.the-variants.{Normal, Cold, Cool, Warm, Hot}
 use Rattle.state_fields.specs.Rows.{enTs, enJeita, tsTh1, tsTh2, tsTh3, tsTh5, jeitaIsetc, jeitaVset}
 use Rattle.settle_bands.specs.Thresholds.{th1At, th2At, th3At, th5At}
+use Rattle.settle_levels.specs.Voltage.{rechargeShareAt}
 use Rattle.laws_account.specs.History.{Run}
 use Rattle.laws_account.specs.Held.{profileOf, sampleOf, fieldAt}
-use Rattle.laws_account.specs.Judged.{vbat, bandAt, suspendedIn, suspended, chargeVoltage, tapering}
+use Rattle.laws_account.specs.Valued.{settingOf}
+use Rattle.laws_account.specs.Judged.{vbat, bandAt, suspendedIn, suspended, chargeVoltage, tapering, rechargeDue}
 use Rattle.laws_account.specs.Refused.{Accepted}
-use Rattle.laws_third.specs.Banded.{Unjudged, FromTh1, ToTh5, FromTh2, ToTh3, InBand, ByBand, OneBand, SuspendingIn, Suspending, chargeTo, Tapering}
-use Rattle.laws_third.proofs.Means.{Means, leb-means, eqb-means, and-means, re-means}
+use Rattle.laws_third.specs.Banded.{Unjudged, FromTh1, ToTh5, FromTh2, ToTh3, InBand, ByBand, OneBand, SuspendingIn, Suspending, chargeTo, Tapering, BelowRecharge, AtVoltage}
+use Rattle.laws_third.proofs.Means.{Means, leb-means, ltb-means, eqb-means, and-means, re-means}
 use Rattle.laws_third.proofs.Packs.{cut-plain, base-plain}
 
 -- the band by its tests
@@ -129,3 +132,14 @@ pub tapering-means : (r : Run) → Accepted r → Means (tapering r) (Tapering r
 unfolding tapering vbat
 tapering-means r a =
     by-band (λ b. chargeTo b r ≤ sampleOf r .pack + 10) r (rw (voltage-plain r a) (leb-means (chargeTo (bandAt r) r) (sampleOf r .pack + 10)))
+
+pub recharge-means : (r : Run) → Accepted r → Means (rechargeDue r) (BelowRecharge r)
+unfolding rechargeDue vbat belowShare
+recharge-means r a =
+    let share = rechargeShareAt (profileOf r) (settingOf 8 r % 4) in
+    by-band (λ b. sampleOf r .pack * 1000 < chargeTo b r * share) r
+    (rw (voltage-plain r a) (ltb-means (sampleOf r .pack * 1000) (chargeTo (bandAt r) r * share)))
+
+pub voltage-means : (r : Run) → Accepted r → Means (leb (millivoltsOf (chargeVoltage r)) (sampleOf r .pack)) (AtVoltage r)
+voltage-means r a =
+    by-band (λ b. chargeTo b r ≤ sampleOf r .pack) r (rw (voltage-plain r a) (leb-means (chargeTo (bandAt r) r) (sampleOf r .pack)))

@@ -1,5 +1,5 @@
 -- Each crossed threshold of the account means the moments that the demand names.
-use Prim.Native.Nat.{ℕ, _*_, _-_, _%_, _≤_, _<_}
+use Prim.Native.Nat.{ℕ, _*_, _-_, _≤_, _<_}
 use native.Mathlib.Omega.{arith}
 use mathlib.Core.Path.{_≡_, refl}
 use mathlib.Core.Bool.{true, not, false≢true}
@@ -8,11 +8,10 @@ use borrow.Author.Tests.{le-ltb, ltb-false}
 use Rattle.base.specs.Units.{below, belowShare}
 use Rattle.laws_account.specs.History.{Run, powered, _▸_, count}
 use Rattle.laws_account.specs.Held.{profileOf, sampleOf, vchg, ichg, overridden, cellsOf}
-use Rattle.settle_levels.specs.Voltage.{rechargeShareAt}
-use Rattle.laws_account.specs.Valued.{pinFault, settingOf}
-use Rattle.laws_account.specs.Judged.{vbat, baseAt, cellPoint, lowEnds, inputOk, inputOver, inputGood, atPowerOn, faultOrOn, short, low, packOver, rechargeDue}
+use Rattle.laws_account.specs.Valued.{pinFault}
+use Rattle.laws_account.specs.Judged.{vbat, baseAt, cellPoint, lowEnds, inputOk, inputOver, inputGood, atPowerOn, faultOrOn, short, low, packOver}
 use Rattle.laws_account.specs.Refused.{Accepted}
-use Rattle.laws_third.specs.Crossed.{InputOk, InputOver, InputGood, PinFault, FaultOrOn, point, base, Short, Low, PackOver, BelowRecharge}
+use Rattle.laws_third.specs.Crossed.{InputOk, InputOver, InputGood, PinFault, FaultOrOn, point, base, Short, Low, PackOver}
 use Rattle.laws_third.proofs.Means.{Means, leb-means, ltb-means, eqb-means, false-means, and-means, or-means, not-means, re-means}
 use Rattle.laws_third.proofs.Positions.{since-means, since-in}
 use Rattle.laws_third.proofs.Packs.{point-plain, base-plain}
@@ -77,7 +76,3 @@ pub pack-means : (r : Run) → Accepted r → Means (packOver r) (PackOver r)
 unfolding packOver
 pack-means r a =
     since-in (λ m k. and-means (not-means (fault-or-on m)) (above-means m k 1020)) (λ m k. and-means (not-means (fault-or-on m)) (above-means m k 1040)) r a
-
-pub recharge-means : (r : Run) → Accepted r → Means (rechargeDue r) (BelowRecharge r)
-unfolding rechargeDue
-recharge-means r a = below-means r a (rechargeShareAt (profileOf r) (settingOf 8 r % 4))

@@ -20,8 +20,8 @@ use Rattle.laws_account.specs.Cycles.{Stage, trickle, precharge, fast, limitOf,
 use Rattle.laws_third.specs.Stages.{WasDone, Restarts, CycleStarts, StartedAt, passed, unitsGiven, timeSince, Reached, Ends, Done}
 use Rattle.laws_third.proofs.Means.{Means, leb-means, eqb-means, true-means, false-means, and-means, or-means, not-means, re-means, by-test, or-cases, or-left, or-right}
 use Rattle.laws_third.proofs.Positions.{since-means, sum-is, last-is, last-le, total-alike, accepted-up}
-use Rattle.laws_third.proofs.Bands.{tapering-means}
-use Rattle.laws_third.proofs.Crossings.{short-means, low-means, recharge-means}
+use Rattle.laws_third.proofs.Bands.{tapering-means, recharge-means}
+use Rattle.laws_third.proofs.Crossings.{short-means, low-means}
 use Rattle.laws_third.proofs.Ended.{mayCharge, restartsNow, endsNow, starts-is, done-is}
 use Rattle.laws_third.proofs.Allowing.{permitted-means, may-means}
 

@@ -1,13 +1,15 @@
 -- Demand 3, the temperature band: which one holds by the moment's own TS, and what goes by it.
-use Prim.Native.Nat.{ℕ, _+_, _*_, _-_, _≤_}
+use Prim.Native.Nat.{ℕ, _+_, _*_, _-_, _%_, _≤_, _<_}
 use mathlib.Core.Path.{_≡_}
 use mathlib.Core.Logic.{_⊎_, _↔_}
 use Rattle.state_parts.specs.declared.band.Band.{Band}
 use Rattle.state_parts.specs.declared.band.Band.the-variants.{Normal, Cold, Cool, Warm, Hot}
 use Rattle.state_fields.specs.Rows.{enTs, enJeita, tsTh1, tsTh2, tsTh3, tsTh5, jeitaIsetc, jeitaVset}
 use Rattle.settle_bands.specs.Thresholds.{th1At, th2At, th3At, th5At}
+use Rattle.settle_levels.specs.Voltage.{rechargeShareAt}
 use Rattle.laws_account.specs.History.{Run}
 use Rattle.laws_account.specs.Held.{profileOf, sampleOf, cellsOf, fieldAt}
+use Rattle.laws_account.specs.Valued.{settingOf}
 use Rattle.laws_account.specs.Judged.{bandAt, cutIn}
 use Rattle.laws_third.specs.Crossed.{base}
 
@@ -65,3 +67,12 @@ chargeTo b m = base m - cut b m
 -- "4 taper, VBAT + 10 >= charge voltage"
 abbrev pub Tapering : Run → Type 0
 Tapering m = ByBand (λ b. chargeTo b m ≤ sampleOf m .pack + 10) m
+
+-- "VBAT is below 92.7, 94.1, 95.5, 97% .. by VRECHG 0-3", and 02, R-1: "The recharge point, both for ending and for restarting, is taken from the charge voltage after the band's cut.
+-- Demand 3 reads so from now on." In thousandths
+abbrev pub BelowRecharge : Run → Type 0
+BelowRecharge m = ByBand (λ b. sampleOf m .pack * 1000 < chargeTo b m * rechargeShareAt (profileOf m) (settingOf 8 m % 4)) m
+
+-- 02, R-1's operators, whose packs tapered for ever: VBAT at or above the charge voltage
+abbrev pub AtVoltage : Run → Type 0
+AtVoltage m = ByBand (λ b. chargeTo b m ≤ sampleOf m .pack) m

@@ -1,12 +1,12 @@
--- Demand 3, crossed thresholds, in whole mV: each holds by a moment of the run at which a point was crossed, and by every moment since; the recharge point by the moment alone.
-use Prim.Native.Nat.{ℕ, _*_, _-_, _%_, _≤_, _<_, min}
+-- Demand 3, crossed thresholds, in whole mV: each holds by a moment of the run at which a point was crossed, and by every moment since.
+-- Taper and the recharge point go by the moment alone, and by its band: they stand in Banded.
+use Prim.Native.Nat.{ℕ, _*_, _-_, _≤_, _<_, min}
 use mathlib.Core.Path.{_≡_}
 use mathlib.Core.Logic.{_⊎_}
 use mathlib.Core.Bool.{false}
 use lib.Dec.{leb}
 use Rattle.base.specs.Pick.{pick}
 use Rattle.state_parts.specs.Pins.{vchgOf}
-use Rattle.settle_levels.specs.Voltage.{rechargeShareAt}
 use Rattle.laws_account.specs.History.{Run, Since, count}
 use Rattle.laws_account.specs.Held.{profileOf, sampleOf, vchg, ichg, overridden, cellsOf}
 use Rattle.laws_account.specs.Valued.{settingOf}
@@ -58,7 +58,3 @@ Low =
 abbrev pub PackOver : Run → Type 0
 PackOver =
     Since (λ m. (¬ FaultOrOn m) × (base m * 1020 ≤ sampleOf m .pack * 1000)) (λ m. (¬ FaultOrOn m) × (base m * 1040 ≤ sampleOf m .pack * 1000))
-
--- "VBAT is below 92.7, 94.1, 95.5, 97% of base by VRECHG 0-3"
-abbrev pub BelowRecharge : Run → Type 0
-BelowRecharge m = sampleOf m .pack * 1000 < base m * rechargeShareAt (profileOf m) (settingOf 8 m % 4)

@@ -13,8 +13,8 @@ use Rattle.laws_account.specs.Held.{profileOf, sampleOf, regulated, wasObserved
 use Rattle.laws_account.specs.Valued.{settingOf}
 use Rattle.laws_account.specs.Cycles.{Stage, limitOf, heldIn, numberAt, phaseAt}
 use Rattle.step_turns.specs.declared.later.Later.the-variants.{Set, Write, TakeFlags, Observe, Service, Reset}
-use Rattle.laws_third.specs.Crossed.{InputGood, Short, Low, BelowRecharge}
-use Rattle.laws_third.specs.Banded.{Tapering}
+use Rattle.laws_third.specs.Crossed.{InputGood, Short, Low}
+use Rattle.laws_third.specs.Banded.{Tapering, BelowRecharge}
 use Rattle.laws_third.specs.Allowed.{Permitted, Allowed}
 
 -- done before the last event, and not reset by it: phase 5 at a moment before it, and since then neither a reset nor a phase but 5, 6 and 7

@@ -3,9 +3,10 @@ use Prim.Native.Nat.{ℕ}
 use mathlib.Core.Path.{_≡_, refl, sym, ap, _∙_}
 use mathlib.Core.List.{List, [], _∷_}
 use mathlib.Core.Bool.{Bool, true, false, not, _&&_, true≢false}
-use lib.Dec.{eqb}
+use lib.Dec.{leb, eqb}
 use lib.ListN.{getD}
 use Rattle.base.specs.Units.{inPack, belowShare}
+use Rattle.base.specs.Volts.{millivoltsOf}
 use Rattle.state_parts.specs.Numbers.{bandNumber}
 use Rattle.state_parts.specs.declared.band.Band.{Band}
 use Rattle.state_parts.specs.declared.band.Band.the-variants.{Normal, Cold, Cool, Warm, Hot}
@@ -19,15 +20,15 @@ use Rattle.laws_account.specs.Cycles.{trickle, precharge, fast, limitOf, reache
 use Rattle.laws_account.specs.Refused.{Accepted, refusalIn}
 use Rattle.laws_third.specs.Banded.{InBand}
 use Rattle.laws_third.proofs.Means.{Means, eqb-means, false-means, and-means, not-means, re-means}
-use Rattle.laws_third.proofs.Bands.{one-band, suspended-means, tapering-means}
-use Rattle.laws_third.proofs.Crossings.{ok-means, over-means, good-means, short-means, low-means, pack-means, recharge-means}
+use Rattle.laws_third.proofs.Bands.{one-band, suspended-means, tapering-means, recharge-means, voltage-means}
+use Rattle.laws_third.proofs.Crossings.{ok-means, over-means, good-means, short-means, low-means, pack-means}
 use Rattle.laws_third.proofs.Ended.{restartsNow, endsNow}
 use Rattle.laws_third.proofs.Allowing.{allowed, allowed-means, fault-means}
 use Rattle.laws_third.proofs.Cycling.{reached-means, within-means, restarts-means, starts-means, ends-means, done-means}
 use Rattle.laws_third.proofs.Charges.{faulty, chargesAt}
 use Rattle.laws_third.proofs.Charging.{tests-mean}
-use Rattle.laws_witness.specs.Days.{day, slow, unattended, mild, packs, inputs, stays}
-use Rattle.laws_witness.specs.Clauses.{Part, goodInput, permission, noFault, noSuspension, notDone, noLimit, partOf, stopped, placeOf, Clause, part, okInput, overInput, shorted, lowPack, overPack, belowRecharge, tapers, banded, reached, restarted, started, ends, ended, charges, inTrickle, inPrecharge, otherwise, clamped, clauseOf, meeting, failing, EachTried, EachAlone}
+use Rattle.laws_witness.specs.Days.{day, slow, unattended, mild, packs, inputs, stays, warm}
+use Rattle.laws_witness.specs.Clauses.{Part, goodInput, permission, noFault, noSuspension, notDone, noLimit, partOf, stopped, placeOf, Clause, part, okInput, overInput, shorted, lowPack, overPack, tapers, belowRecharge, full, banded, reached, restarted, started, ends, ended, charges, inTrickle, inPrecharge, otherwise, clamped, clauseOf, meeting, failing, EachTried, EachAlone}
 use Rattle.laws_witness.proofs.Accepting.{accepts, accepts-means}
 
 -- the test of each part and of each clause
@@ -70,8 +71,9 @@ test overInput r = inputOver r
 test shorted r = short r
 test lowPack r = low r
 test overPack r = packOver r
-test belowRecharge r = rechargeDue r
 test tapers r = tapering r
+test belowRecharge r = rechargeDue r
+test full r = leb (millivoltsOf (chargeVoltage r)) (sampleOf r .pack)
 test (banded b) r = eqb (bandNumber (bandAt r)) (bandNumber b)
 test restarted r = restartsNow r
 test started r = starts phaseAt r
@@ -91,8 +93,9 @@ means overInput r a = over-means r
 means shorted r a = short-means r a
 means lowPack r a = low-means r a
 means overPack r a = pack-means r a
-means belowRecharge r a = recharge-means r a
 means tapers r a = tapering-means r a
+means belowRecharge r a = recharge-means r a
+means full r a = voltage-means r a
 means (banded b) r a = band-means b r
 means (reached s) r a = reached-means s r a
 means restarted r a = restarts-means r a
@@ -115,7 +118,7 @@ Computed c =
     (test c (meeting c) ≡ true) × (test c (failing c) ≡ false) × (accepts (meeting c) ≡ true) × (accepts (failing c) ≡ true)
 
 computed : (c : Clause) → Computed c
-unfolding day slow unattended mild packs inputs stays inPack belowShare since sumAfter count upTo profileOf sampleOf elapsed wasObserved wasReset wasServed unserved expired overridden cellsOf byteOf pinFault startValue settingOf vbat packClamp baseAt inputOk inputOver inputGood short low packOver bandAt suspended chargeVoltage permitted tapering rechargeDue ending unitsAfter gave isDone wasDone restarts starts timeIn timeFound limitFound fault chargeEnds phaseBy limitReached phasesOf phaseAt accepts refusalIn profileOk sampleOk rangeOf ranges
+unfolding day slow unattended mild packs inputs stays warm inPack belowShare since sumAfter count upTo profileOf sampleOf elapsed wasObserved wasReset wasServed unserved expired overridden cellsOf byteOf pinFault startValue settingOf vbat packClamp baseAt inputOk inputOver inputGood short low packOver bandAt suspended chargeVoltage permitted tapering rechargeDue ending unitsAfter gave isDone wasDone restarts starts timeIn timeFound limitFound fault chargeEnds phaseBy limitReached phasesOf phaseAt accepts refusalIn profileOk sampleOk rangeOf ranges
 computed (part goodInput) = (refl, refl, refl, refl)
 computed (part permission) = (refl, refl, refl, refl)
 computed (part noFault) = (refl, refl, refl, refl)
@@ -127,8 +130,9 @@ computed overInput = (refl, refl, refl, refl)
 computed shorted = (refl, refl, refl, refl)
 computed lowPack = (refl, refl, refl, refl)
 computed overPack = (refl, refl, refl, refl)
-computed belowRecharge = (refl, refl, refl, refl)
 computed tapers = (refl, refl, refl, refl)
+computed belowRecharge = (refl, refl, refl, refl)
+computed full = (refl, refl, refl, refl)
 computed (banded Normal) = (refl, refl, refl, refl)
 computed (banded Cold) = (refl, refl, refl, refl)
 computed (banded Cool) = (refl, refl, refl, refl)

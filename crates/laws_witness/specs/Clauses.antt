@@ -10,12 +10,12 @@ use Rattle.step_turns.specs.declared.later.Later.the-variants.{Set}
 use Rattle.laws_account.specs.Held.{ichg, overridden}
 use Rattle.laws_account.specs.Cycles.{Stage, trickle, precharge, fast}
 use Rattle.laws_account.specs.Refused.{Accepted}
-use Rattle.laws_third.specs.Crossed.{InputOk, InputOver, InputGood, Short, Low, PackOver, BelowRecharge}
+use Rattle.laws_third.specs.Crossed.{InputOk, InputOver, InputGood, Short, Low, PackOver}
 use Rattle.laws_third.specs.Stages.{Restarts, CycleStarts, Reached, Ends, Done}
-use Rattle.laws_third.specs.Banded.{InBand, Suspending, Tapering}
+use Rattle.laws_third.specs.Banded.{InBand, Suspending, Tapering, BelowRecharge, AtVoltage}
 use Rattle.laws_third.specs.Allowed.{Permitted, Fault}
 use Rattle.laws_third.specs.Demand.{Charging}
-use Rattle.laws_witness.specs.Days.{sees, dayAt, slow, unattended, mild, packs, inputs, stays}
+use Rattle.laws_witness.specs.Days.{sees, dayAt, slow, unattended, mild, packs, inputs, stays, warmAt}
 
 -- "the input is good, charge is permitted, no fault or suspending temperature holds, the cycle isn't done, and no stage with a limit has reached it"
 pub data Part : Type 0 where
@@ -46,10 +46,10 @@ placeOf noSuspension = 3
 placeOf notDone = 4
 placeOf noLimit = 5
 
--- the crossed thresholds and the left sides of the demand's other sentences
+-- the crossed thresholds, VBAT at the charge voltage, and the left sides of the demand's other sentences
 pub data Clause : Type 0 where
   part : Part → Clause
-  okInput overInput shorted lowPack overPack belowRecharge tapers : Clause
+  okInput overInput shorted lowPack overPack tapers belowRecharge full : Clause
   banded : Band → Clause
   reached : Stage → Clause
   restarted started ends ended : Clause
@@ -62,8 +62,9 @@ clauseOf overInput r = InputOver r
 clauseOf shorted r = Short r
 clauseOf lowPack r = Low r
 clauseOf overPack r = PackOver r
-clauseOf belowRecharge r = BelowRecharge r
 clauseOf tapers r = Tapering r
+clauseOf belowRecharge r = BelowRecharge r
+clauseOf full r = AtVoltage r
 clauseOf (banded b) r = InBand b r
 clauseOf (reached s) r = Reached s r
 clauseOf restarted r = Restarts r
@@ -84,8 +85,9 @@ meeting overInput = inputs 36300 35000
 meeting shorted = packs 3000 4000
 meeting lowPack = packs 5000 5800
 meeting overPack = packs 8800 8600
-meeting belowRecharge = dayAt 8
 meeting tapers = dayAt 4
+meeting belowRecharge = warmAt 7890 5
+meeting full = warmAt 7900 3
 meeting (banded Normal) = mild 55000
 meeting (banded Cold) = mild 80000
 meeting (banded Cool) = mild 70000
@@ -96,7 +98,7 @@ meeting (reached precharge) = stays 5000 41000
 meeting (reached fast) = slow 41000
 meeting restarted = dayAt 8
 meeting started = dayAt 10
-meeting ends = dayAt 5
+meeting ends = warmAt 7900 3
 meeting ended = dayAt 6
 meeting charges = dayAt 1
 meeting inTrickle = dayAt 1
@@ -111,8 +113,9 @@ failing overInput = inputs 12000 35000
 failing shorted = packs 7000 4000
 failing lowPack = packs 7000 5800
 failing overPack = packs 7000 8600
-failing belowRecharge = dayAt 7
 failing tapers = dayAt 3
+failing belowRecharge = warmAt 7890 4
+failing full = warmAt 7890 3
 failing (banded Normal) = mild 70000
 failing (banded Cold) = mild 70000
 failing (banded Cool) = mild 80000

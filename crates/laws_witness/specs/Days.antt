@@ -65,3 +65,17 @@ inputs first then = powered pack ▸ sees 1000 first 7000 500 55000 0 ▸ sees 2
 -- a VBAT held until a stamp
 unfoldable pub stays : ℕ → ℕ → Run
 stays level stamp = powered pack ▸ seen 1000 level ▸ seen stamp level
+
+-- 02, R-1's customer: two cells at 8,400, warm with the cut of 250 per cell (0x19 with JEITA_VSET 1), a VBAT that stays; taper, IBAT below ITERM, and TS back to normal
+unfoldable pub warm : ℕ → Run
+warm level =
+    powered pack
+    ▸ Write 0x19 0xB7
+    ▸ sees 1000 12000 level 500 40000 0
+    ▸ sees 2000 12000 level 50 40000 0
+    ▸ sees 3000 12000 level 0 40000 0
+    ▸ sees 4000 12000 level 500 55000 0
+
+-- the moment after its first i events
+abbrev pub warmAt : ℕ → ℕ → Run
+warmAt level i = upTo i (warm level)

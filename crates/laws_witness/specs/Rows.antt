@@ -8,7 +8,7 @@ use Rattle.laws_account.specs.History.{Run, lastOf}
 use Rattle.laws_account.specs.Held.{expired}
 use Rattle.laws_account.specs.Cycles.{trickle, precharge, fast, numberAt, isDone, starts, timeIn, limitReached, phaseAt}
 use Rattle.laws_account.specs.Reported.{reportAt}
-use Rattle.laws_witness.specs.Days.{dayAt, slow, unattended, mild}
+use Rattle.laws_witness.specs.Days.{dayAt, slow, unattended, mild, warmAt}
 
 -- phase, current and voltage; where the cycle started and each stage's time in it; done, a limit reached, the watchdog expired
 pub record Told : Type 0 where
@@ -84,6 +84,11 @@ rows =
     ∷ row (mild 40000) 3 1500 8200 0 0 0 0 false false false
     ∷ row (mild 80000) 6 0 0 0 0 0 0 false false false
     ∷ row (mild 30000) 6 0 0 0 0 0 0 false false false
+    -- 02, R-1: warm at 7,890, 10 mV short of 7,900: taper, done and still done; back in normal the point is 8,148 and the band alone restarts the cycle
+    ∷ row (warmAt 7890 2) 4 1500 7900 1 0 0 0 false false false
+    ∷ row (warmAt 7890 3) 5 0 0 1 0 0 2000 true false false
+    ∷ row (warmAt 7890 4) 5 0 0 1 0 0 2000 true false false
+    ∷ row (warmAt 7890 5) 3 1500 8400 5 0 0 0 false false false
     ∷ []
 
 abbrev pub Each : List Row → Type 0

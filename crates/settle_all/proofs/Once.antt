@@ -1,13 +1,11 @@
 -- Settling again changes nothing: EN_CHG stays stored, the comparators are at rest, and the tests judge the same phase and cycle.
 use mathlib.Core.Path.{_≡_, refl}
 use mathlib.Core.Bool.{Bool, true, false, not, _&&_, _||_}
-use Rattle.settle_bands.specs.Effect.{suspendsOf}
 use Rattle.settle_bands.specs.Thresholds.{bandOf}
 use Rattle.base.specs.Pick.{pick}
 use Rattle.settle_levels.proofs.Rest.{latches-rest}
-use Rattle.settle_levels.specs.Clamps.{faultOf, baseOf}
+use Rattle.settle_levels.specs.Clamps.{faultOf}
 use Rattle.settle_levels.specs.Comparators.{latchesOf}
-use Rattle.settle_levels.specs.Voltage.{chargeVoltageOf, taperOf, belowRecharge}
 use Rattle.state_parts.specs.declared.band.Band.{Band}
 use Rattle.state_parts.specs.declared.latches.Latches.{Latches}
 use Rattle.state_parts.specs.declared.settings.Settings.{Settings}
@@ -15,13 +13,11 @@ use Rattle.state_parts.specs.declared.state.State.{State}
 use Rattle.settle_phases.proofs.Again.{same}
 use Rattle.settle_phases.specs.After.{afterOf}
 use Rattle.settle_phases.specs.Cycles.{cycleOf}
-use Rattle.settle_phases.specs.Order.{isTaper, clearsOf, phaseOf}
+use Rattle.settle_phases.specs.Order.{clearsOf, phaseOf}
 use Rattle.settle_phases.specs.declared.tests.Tests.{Tests}
 use Rattle.settle_permission.proofs.Cleared.{reached-cleared}
 use Rattle.settle_permission.specs.Bits.{shutdownOf}
-use Rattle.settle_permission.specs.Ending.{endingOf}
 use Rattle.settle_permission.specs.Limits.{reachedOf}
-use Rattle.settle_permission.specs.Permission.{permittedOf}
 use Rattle.settle_all.specs.Gather.{testsOf}
 use Rattle.settle_all.specs.Settle.{storedOf, forcedOf, settledOf, settleOf}
 use Rattle.settle_all.specs.Theorems.{SettlesOnce}
@@ -54,10 +50,8 @@ module _ (s : State) (k : Latches) (b : Band) (o : Bool) where
   judged-again : (phaseOf u ≡ phaseOf t) × (cycleOf u (cycleOf t (s .cycle)) ≡ cycleOf t (s .cycle))
   unfolding testsOf
   judged-again =
-      same o (isTaper (s .phase)) (endingOf (s .settings) (s .sample)) (s .cycle .trickle) (s .cycle .precharge) (s .cycle .fast) _ refl
-      (permittedOf (s .profile) (s .settings) (s .registers) (s .sample) k) stays (reachedOf (s .profile) (s .cycle)) (suspendsOf (s .profile) (s .registers) b) (s .cycle .done)
-      (belowRecharge (s .profile) (s .settings) (baseOf (s .profile) (s .settings) (s .registers)) (s .sample)) (k .short) (k .low)
-      (taperOf (chargeVoltageOf (s .profile) (s .settings) (s .registers) b) (s .sample))
+      same o (t .tapered) (t .ending) (s .cycle .trickle) (s .cycle .precharge) (s .cycle .fast) _ refl (t .permitted) stays (reachedOf (s .profile) (s .cycle)) (t .suspended)
+      (t .done) (t .recharge) (t .short) (t .low) (t .taper)
 
   kept : settledOf (settledOf s k b t) k b u ≡ settledOf s k b t
   unfolding settledOf

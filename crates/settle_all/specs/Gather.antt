@@ -1,7 +1,6 @@
 -- 01, "Settling, in order": the tests of a state.
 use mathlib.Core.Bool.{Bool, _||_}
 use Rattle.settle_bands.specs.Effect.{suspendsOf}
-use Rattle.settle_levels.specs.Clamps.{baseOf}
 use Rattle.settle_levels.specs.Voltage.{chargeVoltageOf, taperOf, belowRecharge}
 use Rattle.state_parts.specs.declared.band.Band.{Band}
 use Rattle.state_parts.specs.declared.cycle.Cycle.{Cycle}
@@ -20,18 +19,20 @@ use Rattle.settle_phases.specs.declared.tests.Tests.{Tests}
 abbrev pub badOf : Profile → Sample → Latches → Cycle → Bool
 badOf p x k c = shutdownOf x || k .packover || reachedOf p c
 
--- the recharge point is a share of the base voltage, taper is judged by the charge voltage
+-- taper and the recharge point go by one charge voltage, that of the band as this settling judges it
 unfoldable pub testsOf : State → Latches → Band → Bool → Tests
-testsOf s k b observed = record {
-  permitted = permittedOf (s .profile) (s .settings) (s .registers) (s .sample) k;
-  fault = badOf (s .profile) (s .sample) k (s .cycle);
-  suspended = suspendsOf (s .profile) (s .registers) b;
-  done = s .cycle .done;
-  recharge = belowRecharge (s .profile) (s .settings) (baseOf (s .profile) (s .settings) (s .registers)) (s .sample);
-  short = k .short;
-  low = k .low;
-  taper = taperOf (chargeVoltageOf (s .profile) (s .settings) (s .registers) b) (s .sample);
-  observed = observed;
-  tapered = isTaper (s .phase);
-  ending = endingOf (s .settings) (s .sample);
-}
+testsOf s k b observed =
+    let charge = chargeVoltageOf (s .profile) (s .settings) (s .registers) b in
+    record {
+      permitted = permittedOf (s .profile) (s .settings) (s .registers) (s .sample) k;
+      fault = badOf (s .profile) (s .sample) k (s .cycle);
+      suspended = suspendsOf (s .profile) (s .registers) b;
+      done = s .cycle .done;
+      recharge = belowRecharge (s .profile) (s .settings) charge (s .sample);
+      short = k .short;
+      low = k .low;
+      taper = taperOf charge (s .sample);
+      observed = observed;
+      tapered = isTaper (s .phase);
+      ending = endingOf (s .settings) (s .sample);
+    }

@@ -2,7 +2,6 @@
 ghost use mathlib.Core.Path.{_≡_};
 ghost use Rattle.settle_all.specs.Gather.{badOf, testsOf};
 use settle_bands::effect;
-use settle_levels::clamps;
 use settle_levels::voltage;
 use settle_permission::bits;
 use settle_permission::ending;
@@ -40,9 +39,8 @@ pub(crate) fn gather(state: State, latches: Latches, band: Band, observed: bool)
     let permitted = permission::permitted(profile, settings, registers, sample, latches);
     let fault = is_bad(profile, sample, latches, cycle);
     let suspended = effect::suspends(profile, registers, band);
-    let base = clamps::base(profile, settings, registers);
-    let recharge = voltage::below_recharge(profile, settings, base, sample);
     let charge = voltage::charge_voltage(profile, settings, registers, band);
+    let recharge = voltage::below_recharge(profile, settings, charge, sample);
     let taper = voltage::tapers(charge, sample);
     let tapered = order::is_taper(phase);
     let ending = ending::may_end(settings, sample);

@@ -22,7 +22,8 @@ chargeVoltageOf p s g b = lessOf (baseOf p s g) (inPack (cutOf p g b) (g .cells)
 unfoldable pub taperOf : PackMv → Sample → Bool
 taperOf charge x = within (packOf (x .pack)) charge 10
 
--- "VBAT is below 92.7, 94.1, 95.5, 97% of base by VRECHG 0-3"; the whole is what the share is taken of
+-- "VBAT is below 92.7, 94.1, 95.5, 97% .. by VRECHG 0-3": the recharge point, a share of the charge voltage. 02, R-1: "The recharge point, both for ending and for restarting, is
+-- taken from the charge voltage after the band's cut."
 abbrev pub rechargeShareAt : Profile → ℕ → ℕ
 rechargeShareAt p code = getD (927 ∷ 941 ∷ 955 ∷ 970 ∷ []) code 0
 
@@ -30,4 +31,4 @@ abbrev pub rechargeShare : Profile → Settings → ℕ
 rechargeShare p s = rechargeShareAt p (s .vrechg % 4)
 
 unfoldable pub belowRecharge : Profile → Settings → PackMv → Sample → Bool
-belowRecharge p s whole x = belowShare (packOf (x .pack)) whole (rechargeShare p s)
+belowRecharge p s charge x = belowShare (packOf (x .pack)) charge (rechargeShare p s)

@@ -37,11 +37,11 @@ pub fn tapers(charge: PackMv, sample: Sample) -> bool
     units::is_within(now, charge, 10)
 }
 
-// Whether VBAT is below the recharge point.
-pub fn below_recharge(profile: Profile, settings: Settings, whole: PackMv, sample: Sample) -> bool
-    ensures { λ r. ⌜ r ≡ belowRecharge profile settings whole sample ⌝ }
+// Whether VBAT is below the recharge point, a share of the charge voltage.
+pub fn below_recharge(profile: Profile, settings: Settings, charge: PackMv, sample: Sample) -> bool
+    ensures { λ r. ⌜ r ≡ belowRecharge profile settings charge sample ⌝ }
 {
     let share = entry::of_four(settings.vrechg, 927, 941, 955, 970);
     let now = volts::pack(sample.pack);
-    units::is_below_share(now, whole, share)
+    units::is_below_share(now, charge, share)
 }

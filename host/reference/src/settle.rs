@@ -52,7 +52,7 @@ const LOW: [Points; 4] = [
 ];
 /// Thousandths of base.
 const BATTERY_OVER: Points = Points { enter: 1_040, leave: 1_020 };
-/// Thousandths of base by VRECHG.
+/// Thousandths of the charge voltage by VRECHG.
 const RECHARGE: [u32; 4] = [927, 941, 955, 970];
 
 /// How near to the charge voltage taper begins, mV.
@@ -138,10 +138,11 @@ fn is_battery_over(state: &State) -> bool {
     !vbat(state).is_below_share(base_voltage(state), point)
 }
 
-/// The recharge point is of the base voltage, before the warm cut.
+/// "The recharge point, both for ending and for restarting, is taken from
+/// the charge voltage after the band's cut." (R-1)
 fn below_recharge(state: &State) -> bool {
     let share = RECHARGE[state.settings[Setting::Vrechg] as usize];
-    vbat(state).is_below_share(base_voltage(state), share)
+    vbat(state).is_below_share(charge_voltage(state), share)
 }
 
 /// "Permission: input good, no HIZ (EN_HIZ, or EN_EXTILIM with the pin

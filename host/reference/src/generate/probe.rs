@@ -12,7 +12,7 @@ use crate::volts::CellMv;
 
 /// Where low ends and returns, in thousandths of base, by VBAT_LOWV.
 const LOW: [(u32, u32); 4] = [(300, 250), (550, 500), (667, 617), (714, 664)];
-/// The recharge points, in thousandths of base, by VRECHG.
+/// The recharge points, in thousandths of the charge voltage, by VRECHG.
 const RECHARGE: [u32; 4] = [927, 941, 955, 970];
 
 /// TS in the normal band, whatever the thresholds.
@@ -104,8 +104,9 @@ impl Walk {
         self.see_points(share_of(base, 1_040), share_of(base, 1_020));
     }
 
-    /// A charge that ends, or can't, at the recharge point; one that restarts
-    /// there. The warm cut parts the charge voltage from the base.
+    /// A charge that ends at the charge voltage or near it; one that restarts
+    /// at the recharge point, by VBAT or by the band alone. The warm cut parts
+    /// the charge voltage from the base, and so their points.
     fn probe_recharge(&mut self) {
         let code = self.rng.within(0, 3);
         self.set_to(Setting::Vrechg, code);
@@ -117,14 +118,21 @@ impl Walk {
             self.see(|sample, state| sample.ts = state.control.th3());
         }
         let Some(state) = self.state() else { return };
-        let point = share_of(base_voltage(&state), RECHARGE[code as usize]);
+        let share = RECHARGE[code as usize];
+        let point = share_of(charge_voltage(&state), share);
+        let uncut = share_of(base_voltage(&state), share);
         let top = charge_voltage(&state).0;
         let low_current = state.settings[Setting::Iterm] as i32 - 1;
         self.see(|sample, _| (sample.vbat, sample.ibat) = (top.min(MOST_MV), 1_000));
-        let ends_at = self.rng.pick(&[top, top, point, point.saturating_sub(1)]);
+        let ends_at = self.rng.pick(&[top, top.saturating_sub(10), uncut, uncut.saturating_sub(1)]);
         self.see(|sample, _| (sample.vbat, sample.ibat) = (ends_at, low_current));
         if self.rng.once_in(3) {
             self.see(|sample, state| sample.ts = state.control.th1());
+            self.see(|sample, _| sample.ts = NORMAL_TS);
+        }
+        if self.rng.coin() {
+            let nearly = self.rng.pick(&[uncut, uncut.saturating_sub(1)]);
+            self.see_vbat(nearly);
             self.see(|sample, _| sample.ts = NORMAL_TS);
         }
         self.see_vbat(point);

@@ -1,4 +1,4 @@
--- `below_recharge`: a share of the whole.
+-- `below_recharge`: a share of the charge voltage.
 use Rattle.settle_levels.specs.Voltage.{belowRecharge}
 use Rattle.settle_levels.proofs.voltage.below_recharge.Statement.{statement}
 use Rattle.settle_levels.proofs.voltage.below_recharge.Tie as tie
