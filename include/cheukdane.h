@@ -41,13 +41,16 @@ typedef char cheukdane_size_t_has_64_bits[sizeof(size_t) == 8 ? 1 : -1];
 
 /* The number of the rules: what a log means. Every landing that changes the state, the report or the answer that a log
  * leads to moves it. Two heads compare cheukdane_rules() before they trust each other: with one log and other rules
- * they would part. This is the number at the time of compiling; cheukdane_rules() is that of the archive linked. */
-#define CHEUKDANE_RULES 1
+ * they would part. So both are brought up to new rules together, each with zeroed bytes for an image and its whole log
+ * replayed. This is the number at the time of compiling; cheukdane_rules() is that of the archive linked.
+ *   1  the base
+ *   2  the recharge point is a share of the charge voltage, after the warm cut, and not of the voltage before it */
+#define CHEUKDANE_RULES 2
 
 /* ---- Images ---- */
 
-/* The format of an image: every landing that changes the list of numbers below moves it. It is never 0. */
-#define CHEUKDANE_FORMAT 1
+/* The format of an image: it moves with the rules, so that no model is carried over from other rules. It is never 0. */
+#define CHEUKDANE_FORMAT 2
 
 /* Bytes of an image: 54 words. Word 0 is 0 before a power-on, and then all other words are 0 too; after it, it is the
  * format's number, CHEUKDANE_FORMAT, and the state's numbers follow, from these words on; a yes or no is 1 or 0. So
@@ -58,8 +61,8 @@ typedef char cheukdane_size_t_has_64_bits[sizeof(size_t) == 8 ? 1 : -1];
  *
  * An image may be stored and lent again later, also by a head of another make: it has no padding and no pointer. It has
  * no checksum: bytes that were changed in storage load if they are some model's image, so whoever stores an image keeps
- * a checksum beside it. An image of another format is 5: such a head starts from zeroed bytes and replays the log. An
- * image doesn't say by which rules it was made: store cheukdane_rules() beside it too. */
+ * a checksum beside it. An image of another format, an older one too, is 5: such a head starts from zeroed bytes and
+ * replays the log. */
 #define CHEUKDANE_IMAGE 216
 #define CHEUKDANE_PROFILE 1    /* a power-on's ten numbers, in the log's order */
 #define CHEUKDANE_SETTINGS 11  /* settings 1 to 14 */

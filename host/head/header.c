@@ -24,7 +24,7 @@ static void words(void) {
     shown(before, "words are read and stored");
 }
 
-/* An image whose word 0 is another number than 0 and the format is 5, on or off. */
+/* An image whose word 0 is another number than 0 and the format is 5, on or off: of an older format too. */
 static void other_formats(void) {
     int before = failures;
     struct head head;
@@ -38,6 +38,13 @@ static void other_formats(void) {
             int off = cheukdane_word(image, 0) == 0 && !on;
             uint32_t wanted = off ? CHEUKDANE_REFUSED_NOT_POWERED : CHEUKDANE_REFUSED_OUT_OF_RANGE;
             holds(cheukdane_report(image, sizeof image, report, sizeof report).number == wanted, "another format is 5");
+        }
+        for (uint32_t older = 1; older < CHEUKDANE_FORMAT; older++) {
+            uint8_t image[CHEUKDANE_IMAGE];
+            memcpy(image, head.image, sizeof image);
+            cheukdane_put_word(image, 0, older);
+            uint32_t number = cheukdane_report(image, sizeof image, report, sizeof report).number;
+            holds(number == CHEUKDANE_REFUSED_OUT_OF_RANGE, "an older format is 5");
         }
         play(&head, EXAMPLE, sizeof EXAMPLE, 0);
     }

@@ -4,6 +4,7 @@ pub mod Leaves
 pub mod Lengths
 mod Plays
 mod Replays
+pub mod Numbered
 mod Shows
 mod Writes
 pub mod Contracts

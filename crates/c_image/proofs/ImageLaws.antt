@@ -19,7 +19,7 @@ use Rattle.c_list.proofs.Lengths.{state-long}
 use Rattle.c_list.proofs.Again.{made-again}
 use Rattle.c_list.specs.Places.{stateCount}
 use Rattle.c_image.specs.Images.{imageFormat, imageLength, modelNumbers, imageOf, modelFrom, modelIn}
-use Rattle.c_image.specs.Promises.{Storable, LoadsBack, OneImage, ImageLong, ImagesDiffer, FormatNotZero, OffIsZeros, OtherFormat}
+use Rattle.c_image.specs.Promises.{Storable, LoadsBack, OneImage, ImageLong, ImagesDiffer, FormatNotZero, OffIsZeros, OtherFormat, OlderFormat}
 
 pub format-not-zero : FormatNotZero
 format-not-zero e = omega arith
@@ -100,3 +100,6 @@ unfolding modelIn
 other-format bytes off other =
     let m = modelFrom bytes in
     told-other (sameBytes (imageOf m) bytes) bytes (imageOf m) m (same-told .told (imageOf m) bytes) refl off other
+
+pub older-format : OlderFormat
+older-format bytes off older = other-format bytes off (λ e. omega (arith, older, e))

@@ -1,5 +1,5 @@
 -- What is promised of images: the types of the theorems that proofs/ proves.
-use Prim.Native.Nat.{ℕ}
+use Prim.Native.Nat.{ℕ, _<_}
 use mathlib.Core.Path.{_≡_}
 use mathlib.Core.List.{List}
 use mathlib.Core.Logic.{_≢_}
@@ -45,3 +45,7 @@ OffIsZeros = imageOf Off ≡ zeros 216
 -- "an image of another format is 5"
 abbrev pub OtherFormat : Type 0
 OtherFormat = (bytes : List ℕ) → wordAt bytes 0 ≢ 0 → wordAt bytes 0 ≢ imageFormat → modelIn bytes ≡ refused 5
+
+-- "an older one too": format 1 was the base's, whose recharge point was another, so that a log had led to other states (02, R-1)
+abbrev pub OlderFormat : Type 0
+OlderFormat = (bytes : List ℕ) → wordAt bytes 0 ≢ 0 → wordAt bytes 0 < 2 → modelIn bytes ≡ refused 5

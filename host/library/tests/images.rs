@@ -152,12 +152,13 @@ fn off_with_a_word_that_is_not_zero() {
     }
 }
 
-/// "An image of another format is 5", of a model that is on and of zeros.
+/// "An image of another format is 5", an older one too, of a model that is on
+/// and of zeros.
 #[test]
 fn another_format() {
     let on = image::of(&Held::On(run(4, 40)));
     let near = (0..32).map(|bit| FORMAT ^ 1 << bit).chain([FORMAT + 1, FORMAT + 2, u32::MAX]);
-    for first in near.filter(|first| *first != 0) {
+    for first in near.chain(1..FORMAT).filter(|first| *first != 0) {
         for bytes in [&on[..], &[0; IMAGE]] {
             assert_eq!(lend(&with_word(bytes, 0, first), &Event::TakeFlags), [5; 4], "{first}");
         }

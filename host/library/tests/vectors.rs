@@ -115,7 +115,7 @@ fn state_line(played: &Played) -> String {
 fn statelog(log: &[u8]) -> String {
     let mut lines = String::new();
     play(log, |played| {
-        if played.image[0] == 1 {
+        if words(played.image)[0] != 0 {
             lines.push_str(&state_line(&played));
         }
     });
