@@ -11,6 +11,8 @@ pub mod HoldsSecond
 pub mod HoldsThird
 pub mod Only
 pub mod Parts
+pub mod Operators
+pub mod BasePoint
 mod Invented
 pub mod RefutesFirst
 pub mod RefutesSecond

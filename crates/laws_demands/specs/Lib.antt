@@ -8,4 +8,6 @@ pub mod Ours
 pub mod Only
 pub mod Wrong
 pub mod Slips
+pub mod Operators
+pub mod BasePoint
 pub mod Refuted

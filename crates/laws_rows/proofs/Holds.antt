@@ -1,4 +1,4 @@
--- Every row holds: both sides compute to the same numbers.
+-- Every row holds, of 01 and of 02: both sides compute to the same numbers.
 use mathlib.Core.Path.{refl}
 use Rattle.settle_bands.specs.Effect.{shareOf, cutOf, suspendsOf}
 use Rattle.settle_bands.specs.Thresholds.{bandOf}
@@ -36,6 +36,7 @@ use Rattle.state_registers.specs.Writes.{writeOf, writtenTo, recounted}
 use Rattle.state_fields.specs.Held.{withByte}
 use Rattle.step_text.specs.Runs.{runText}
 use Rattle.laws_rows.specs.Rows.{rows, EveryRow}
+use Rattle.laws_rows.specs.Requested.{requested, EveryRequest}
 use Rattle.settle_permission.specs.Bits.{regulatedOf}
 use Rattle.settle_permission.specs.Ending.{endingOf}
 use Rattle.settle_permission.specs.Limits.{reachedOf}
@@ -51,3 +52,7 @@ use Rattle.state_valid.specs.Holds.{stateOk, profileOk, registersOk, cycleOk, w
 pub every-row : EveryRow
 unfolding rows runText linesText wholeOf endText headedText spellEvent numberAt lineText numbersOf pageOf startWalk stepOf spellItems readNumber decimal walkOf heldOf reportOf firstOf stateOk movedOf readGroups decimalBy recordAt settingNumbers fastCurrent chargeVoltageOf inputLimitOf profileOk settingsOk registersOk cycleOk watchdogOk sampleOk setOf observeOf spell readRecord chargeClampOf shareOf baseOf inPack cutOf mayHold finishOf storeOf writeOf observedOf resetOf groups metBy packClampOf settleOf startState shownOf rangeOf edgesOf merged pulseOf writtenTo countedOf expiredOf clearedIf timesOf unitsOf startSettings resetRegisters lineOf readItems forcedOf latchesOf bandOf settledOf testsOf fieldsAt ranges seenOf recounted withByte takenOf byteAt regulatedOf startVreg startIchg startVsysmin flagsNumber eventOf faultOf shortOf lowOf packOverOf cycleOf phaseOf permittedOf suspendsOf belowRecharge taperOf endingOf fields reachedOf signedOf belowShare clearsOf endsOf judgedOf restartsOf turnedBy changeOf followedOf writtenOf turnOf profileInRange sampleInRange seenOn
 every-row = (refl, (refl, (refl, (refl, (refl, (refl, (refl, (refl, (refl, (refl, tt))))))))))
+
+pub every-request : EveryRequest
+unfolding requested runText linesText wholeOf endText headedText spellEvent numberAt lineText numbersOf pageOf startWalk stepOf spellItems readNumber decimal walkOf heldOf reportOf firstOf stateOk movedOf readGroups decimalBy recordAt settingNumbers fastCurrent chargeVoltageOf inputLimitOf profileOk settingsOk registersOk cycleOk watchdogOk sampleOk setOf observeOf spell readRecord chargeClampOf shareOf baseOf inPack cutOf mayHold finishOf storeOf writeOf observedOf resetOf groups metBy packClampOf settleOf startState shownOf rangeOf edgesOf merged pulseOf writtenTo countedOf expiredOf clearedIf timesOf unitsOf startSettings resetRegisters lineOf readItems forcedOf latchesOf bandOf settledOf testsOf fieldsAt ranges seenOf recounted withByte takenOf byteAt regulatedOf startVreg startIchg startVsysmin flagsNumber eventOf faultOf shortOf lowOf packOverOf cycleOf phaseOf permittedOf suspendsOf belowRecharge taperOf endingOf fields reachedOf signedOf belowShare clearsOf endsOf judgedOf restartsOf turnedBy changeOf followedOf writtenOf turnOf profileInRange sampleInRange seenOn
+every-request = (refl, tt)

@@ -1,2 +1,2 @@
--- The law of the crate `laws_rows`.
+-- The laws of the crate `laws_rows`.
 pub mod Holds

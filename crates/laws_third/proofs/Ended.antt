@@ -288,3 +288,42 @@ done-first p = ap (λ q. eqb (phaseNumber q) 5) (phase-keeps-rule .rule (powered
 pub done-is : (r : Run) → isDone phaseAt r ≡ doneNow r
 done-is (powered p) = done-first p
 done-is (r ▸ e) = done-by r e
+
+-- done, with nothing that comes before phase 5
+judged-five : (due sh lo ta : Bool) → leb 5 (phaseNumber (judged true false false false true due false sh lo ta)) ≡ true
+    → eqb (phaseNumber (judged true false false false true due false sh lo ta)) 5 ≡ true
+judged-five false sh lo ta h = refl
+judged-five true true lo ta h = absurd (false≢true h)
+judged-five true false true ta h = absurd (false≢true h)
+judged-five true false false true h = absurd (false≢true h)
+judged-five true false false false h = absurd (false≢true h)
+
+module _ (r : Run) (e : Later) where
+  abbrev now : Run
+  now = r ▸ e
+
+  five-again : mayCharge now ≡ true → not (wasReset now) ≡ true → isDone phaseAt r ≡ true → leb 5 (numberAt phaseAt now) ≡ true → eqb (numberAt phaseAt now) 5 ≡ true
+  five-again may kept was from = subst (λ q. eqb (phaseNumber q) 5 ≡ true) (sym held) (judged-five (rechargeDue now) (short now) (low now) (tapering now) (subst (λ q. leb 5 (phaseNumber q) ≡ true) held from))
+    where
+      clear : (b : Bool) → not b ≡ true → b ≡ false
+      clear false h = refl
+      clear true h = absurd (false≢true h)
+
+      parts : (permitted now ≡ true) × (not (faulty now) && not (suspended now) ≡ true)
+      parts = and-iff (permitted now) (not (faulty now) && not (suspended now)) .0 may
+
+      calm : (not (faulty now) ≡ true) × (not (suspended now) ≡ true)
+      calm = and-iff (not (faulty now)) (not (suspended now)) .0 (parts .1)
+
+      held : phaseAt now ≡ judged true false false false true (rechargeDue now) false (short now) (low now) (tapering now)
+      held = rw (rule r e, parts .0, clear (faulty now) (calm .0), clear (suspended now) (calm .1), any-none r e was (done-unlimited r was), kept, was, ends-none r e was)
+
+pub done-five : (r : Run) → isDone phaseAt r ≡ true → mayCharge r ≡ true → eqb (numberAt phaseAt r) 5 ≡ true
+unfolding isDone since
+done-five (powered p) t may = t
+done-five (r ▸ e) t may =
+    or-cases (eqb (numberAt phaseAt (r ▸ e)) 5) ((not (wasReset (r ▸ e)) && leb 5 (numberAt phaseAt (r ▸ e))) && isDone phaseAt r) t (λ h. h)
+    (λ h.
+    let k = and-iff (not (wasReset (r ▸ e)) && leb 5 (numberAt phaseAt (r ▸ e))) (isDone phaseAt r) .0 h in
+    let j = and-iff (not (wasReset (r ▸ e))) (leb 5 (numberAt phaseAt (r ▸ e))) .0 (k .0) in
+    five-again r e may (j .0) (k .1) (j .1))

@@ -9,7 +9,9 @@ use Rattle.laws_account.specs.Held.{wasReset}
 use Rattle.laws_account.specs.Cycles.{Stage, heldIn, numberAt, timeIn, phaseAt}
 use Rattle.log_event.specs.declared.Event.{Event}
 use Rattle.laws_account.specs.Refused.{Accepted, none, some, pastOf}
-use Rattle.laws_third.specs.Stages.{CycleStarts, StartedAt, timeSince, Reached, Ends, Done}
+use Rattle.laws_third.specs.Banded.{AtVoltage}
+use Rattle.laws_third.specs.Allowed.{Allowed}
+use Rattle.laws_third.specs.Stages.{WasDone, CycleStarts, StartedAt, timeSince, Reached, MayEnd, Ends, Done}
 
 -- the present cycle started once, and what the account has of a stage is the sum from there to now: no time is lost or invented
 pub record Cycled (r : Run) : Type 0 where
@@ -36,6 +38,18 @@ DoneSince = (r : Run) → Accepted r → Done r ↔ Since (λ m. ¬ CycleStarts 
 abbrev pub DoneByPhases : Type 0
 DoneByPhases =
     (r : Run) → Accepted r → Done r ↔ Since (λ m. (wasReset m ≡ false) × (5 ≤ numberAt phaseAt m)) (λ m. numberAt phaseAt m ≡ 5) r
+
+-- phase 5 is held where the cycle is done and nothing that comes before 5 in the order holds
+abbrev pub DoneIsFive : Type 0
+DoneIsFive = (r : Run) → Accepted r → Done r → Allowed r → numberAt phaseAt r ≡ 5
+
+-- 02, R-1, for the operators: with VBAT at or above the charge voltage whatever may end a charge ends it, in every band that charges
+abbrev pub EndsAtVoltage : Type 0
+EndsAtVoltage = (r : Run) → Accepted r → MayEnd r → AtVoltage r → Ends r × (numberAt phaseAt r ≡ 5)
+
+-- and no cycle that is done starts again there
+abbrev pub StaysAtVoltage : Type 0
+StaysAtVoltage = (r : Run) → Accepted r → WasDone r → Allowed r → AtVoltage r → (¬ CycleStarts r) × (numberAt phaseAt r ≡ 5)
 
 -- none of this is of runs that no list of events leaves: every run of accepted events is left by one
 abbrev pub EveryRunLeft : Type 0

@@ -1,4 +1,5 @@
 -- The laws of the crate.
 pub mod Alone
 pub mod Below
+pub mod Charged
 pub mod Once

@@ -1,14 +1,18 @@
 -- What is proved of every settling, of every state.
+use Prim.Native.Nat.{_≤_}
 use mathlib.Core.Path.{_≡_}
 use mathlib.Core.Bool.{Bool, true, false}
 use Rattle.settle_bands.specs.Thresholds.{bandOf}
 use Rattle.settle_levels.specs.Clamps.{faultOf}
 use Rattle.settle_levels.specs.Comparators.{latchesOf}
+use Rattle.settle_levels.specs.Voltage.{chargeVoltageOf}
 use Rattle.state_parts.specs.Stages.{charging}
+use Rattle.state_parts.specs.declared.phase.Phase.the-variants.{Done}
 use Rattle.state_parts.specs.declared.state.State.{State}
 use Rattle.settle_phases.specs.Cycles.{cycleOf}
-use Rattle.settle_phases.specs.Order.{phaseOf}
+use Rattle.settle_phases.specs.Order.{isTaper, judgedOf, phaseOf}
 use Rattle.settle_phases.specs.declared.tests.Tests.{Tests}
+use Rattle.settle_permission.specs.Ending.{endingOf}
 use Rattle.settle_permission.specs.Limits.{reachedOf}
 use Rattle.settle_all.specs.Gather.{testsOf}
 use Rattle.settle_all.specs.Settle.{storedOf, forcedOf, settleOf}
@@ -45,3 +49,19 @@ SettlesTo = (s : State) (observed : Bool) → Moved s observed
 -- 01: "7 fault, .. a stage limit reached": in the stage that a settling comes to, no limit is reached
 abbrev pub BelowLimits : Type 0
 BelowLimits = (s : State) (observed : Bool) → charging (settleOf s observed .phase) ≡ true → reachedOf (s .profile) (settleOf s observed .cycle) ≡ false
+
+-- 02, R-1: the recharge point "is taken from the charge voltage after the band's cut". VBAT at or above that voltage, in the band that this settling judges
+abbrev pub Charged : State → Type 0
+Charged s = chargeVoltageOf (s .profile) (s .settings) (s .registers) (bandOf (s .profile) (s .registers) (s .sample .ts)) .0 ≤ s .sample .pack
+
+-- "for ending": there an observation ends the charge, "phase 4 held before it and judged after it, EN_TERM, IBAT < ITERM, no regulation"
+abbrev pub ChargedEnds : Type 0
+ChargedEnds =
+    (s : State) → Charged s → isTaper (s .phase) ≡ true → isTaper (judgedOf (testedOf s true)) ≡ true → endingOf (s .settings) (s .sample) ≡ true
+    → settleOf s true .phase ≡ Done
+
+-- "and for restarting": there a charge that is done stays done, wherever phase 5 would hold
+abbrev pub ChargedStays : Type 0
+ChargedStays =
+    (s : State) (observed : Bool) → Charged s → s .cycle .done ≡ true → testedOf s observed .permitted ≡ true → testedOf s observed .fault ≡ false
+    → testedOf s observed .suspended ≡ false → settleOf s observed .phase ≡ Done

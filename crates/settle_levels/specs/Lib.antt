@@ -2,3 +2,4 @@
 pub mod Clamps
 pub mod Comparators
 pub mod Voltage
+pub mod Theorems

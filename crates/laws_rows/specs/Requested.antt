@@ -1,0 +1,29 @@
+-- 02: rows that its requests give, computed as 01's are: a log by its bytes, through the reader, the step and the printed text.
+use Prim.Native.Nat.{ℕ}
+use mathlib.Core.List.{List, [], _∷_, _++_}
+use Rattle.laws_rows.specs.Cases.{log, bytesOf}
+use Rattle.laws_rows.specs.Rows.{Row, row, Each}
+
+-- R-1: "Two cells at 8,400 are cut to 7,900": 01's power-on; 0x19 with JEITA_VSET 1
+abbrev pub warmStart : List ℕ
+warmStart =
+    0x01 ∷ 0x02 ∷ 0x05 ∷ 0x04 ∷ 0x00 ∷ 0x00 ∷ 0x94 ∷ 0x23 ∷ 0x90 ∷ 0x1C ∷ 0xA0 ∷ 0x38 ∷ 0xA0 ∷ 0x99 ∷ 0x02 ∷ 0x00
+    ∷ 0x03 ∷ 0x19 ∷ 0xB7 ∷ 0x01 ∷ []
+
+-- VBAT 7,890: TS 40,000 with IBAT 500, 50 and 0, a second apart; then TS 55,000 with IBAT 500
+abbrev pub warmSamples : List ℕ
+warmSamples =
+    0x05 ∷ 0xE8 ∷ 0x07 ∷ 0xE0 ∷ 0x5D ∷ 0xD2 ∷ 0x3D ∷ 0xE8 ∷ 0x07 ∷ 0xC0 ∷ 0xB8 ∷ 0x02 ∷ 0x00
+    ∷ 0x05 ∷ 0xD0 ∷ 0x0F ∷ 0xE0 ∷ 0x5D ∷ 0xD2 ∷ 0x3D ∷ 0x64 ∷ 0xC0 ∷ 0xB8 ∷ 0x02 ∷ 0x00
+    ∷ 0x05 ∷ 0xB8 ∷ 0x17 ∷ 0xE0 ∷ 0x5D ∷ 0xD2 ∷ 0x3D ∷ 0x00 ∷ 0xC0 ∷ 0xB8 ∷ 0x02 ∷ 0x00
+    ∷ 0x05 ∷ 0xA0 ∷ 0x1F ∷ 0xE0 ∷ 0x5D ∷ 0xD2 ∷ 0x3D ∷ 0xE8 ∷ 0x07 ∷ 0xD8 ∷ 0xAD ∷ 0x03 ∷ 0x00 ∷ []
+
+unfoldable pub requested : List Row
+requested =
+    -- R-1: taper; done, though 7,890 is below 97% of 8,400; still done; back in normal the band alone restarts the cycle
+    row (log (warmStart ++ warmSamples))
+    (bytesOf "1 1 0 0 0 0 3300 1 32\n2 3 0 0 0 0 3300 0 32\n3 5 0 4 1500 7900 3300 1 225\n4 5 0 5 0 0 3300 1 225\n5 5 0 5 0 0 3300 0 225\n6 5 0 3 1500 8400 3300 1 225\nend 6 0 70\n")
+    ∷ []
+
+abbrev pub EveryRequest : Type 0
+EveryRequest = Each requested
