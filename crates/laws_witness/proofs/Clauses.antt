@@ -22,13 +22,13 @@ use Rattle.laws_third.specs.Banded.{InBand}
 use Rattle.laws_third.proofs.Means.{Means, eqb-means, false-means, and-means, not-means, re-means}
 use Rattle.laws_third.proofs.Bands.{one-band, suspended-means, tapering-means, recharge-means, voltage-means}
 use Rattle.laws_third.proofs.Crossings.{ok-means, over-means, good-means, short-means, low-means, pack-means}
-use Rattle.laws_third.proofs.Ended.{restartsNow, endsNow}
-use Rattle.laws_third.proofs.Allowing.{allowed, allowed-means, fault-means}
-use Rattle.laws_third.proofs.Cycling.{reached-means, within-means, restarts-means, starts-means, ends-means, done-means}
+use Rattle.laws_third.proofs.Ended.{mayCharge, restartsNow, endsNow}
+use Rattle.laws_third.proofs.Allowing.{allowed, allowed-means, fault-means, may-means}
+use Rattle.laws_third.proofs.Cycling.{was-means, reached-means, within-means, restarts-means, starts-means, ends-means, done-means}
 use Rattle.laws_third.proofs.Charges.{faulty, chargesAt}
 use Rattle.laws_third.proofs.Charging.{tests-mean}
 use Rattle.laws_witness.specs.Days.{day, slow, unattended, mild, packs, inputs, stays, warm}
-use Rattle.laws_witness.specs.Clauses.{Part, goodInput, permission, noFault, noSuspension, notDone, noLimit, partOf, stopped, placeOf, Clause, part, okInput, overInput, shorted, lowPack, overPack, tapers, belowRecharge, full, banded, reached, restarted, started, ends, ended, charges, inTrickle, inPrecharge, otherwise, clamped, clauseOf, meeting, failing, EachTried, EachAlone}
+use Rattle.laws_witness.specs.Clauses.{Part, goodInput, permission, noFault, noSuspension, notDone, noLimit, partOf, stopped, placeOf, Clause, part, okInput, overInput, shorted, lowPack, overPack, tapers, belowRecharge, full, banded, reached, restarted, started, ends, ended, staysDone, charges, inTrickle, inPrecharge, otherwise, clamped, clauseOf, meeting, failing, EachTried, EachAlone}
 use Rattle.laws_witness.proofs.Accepting.{accepts, accepts-means}
 
 -- the test of each part and of each clause
@@ -80,6 +80,7 @@ test started r = starts phaseAt r
 test ends r = endsNow r
 test (reached s) r = reaches (limitOf s (profileOf r)) (timeIn phaseAt s r)
 test ended r = isDone phaseAt r
+test staysDone r = wasDone phaseAt r && (mayCharge r && leb (millivoltsOf (chargeVoltage r)) (sampleOf r .pack))
 test charges r = chargesAt phaseAt r
 test inTrickle r = chargesAt phaseAt r && short r
 test inPrecharge r = chargesAt phaseAt r && (not (short r) && low r)
@@ -102,6 +103,8 @@ means restarted r a = restarts-means r a
 means started r a = starts-means r a
 means ends r a = ends-means r a
 means ended r a = done-means r a
+means staysDone r a =
+    re-means (λ h. (h .0, h .1 .0, h .1 .1)) (λ h. (h .0, (h .1, h .2))) (and-means (was-means r) (and-means (may-means r a) (voltage-means r a)))
 means charges r a = tests-mean r a
 means inTrickle r a = and-means (tests-mean r a) (short-means r a)
 means inPrecharge r a =
@@ -145,6 +148,7 @@ computed (reached trickle) = (refl, refl, refl, refl)
 computed (reached precharge) = (refl, refl, refl, refl)
 computed (reached fast) = (refl, refl, refl, refl)
 computed ended = (refl, refl, refl, refl)
+computed staysDone = (refl, refl, refl, refl)
 computed charges = (refl, refl, refl, refl)
 computed inTrickle = (refl, refl, refl, refl)
 computed inPrecharge = (refl, refl, refl, refl)

@@ -11,9 +11,9 @@ use Rattle.laws_account.specs.Held.{ichg, overridden}
 use Rattle.laws_account.specs.Cycles.{Stage, trickle, precharge, fast}
 use Rattle.laws_account.specs.Refused.{Accepted}
 use Rattle.laws_third.specs.Crossed.{InputOk, InputOver, InputGood, Short, Low, PackOver}
-use Rattle.laws_third.specs.Stages.{Restarts, CycleStarts, Reached, Ends, Done}
+use Rattle.laws_third.specs.Stages.{WasDone, Restarts, CycleStarts, Reached, Ends, Done}
 use Rattle.laws_third.specs.Banded.{InBand, Suspending, Tapering, BelowRecharge, AtVoltage}
-use Rattle.laws_third.specs.Allowed.{Permitted, Fault}
+use Rattle.laws_third.specs.Allowed.{Permitted, Fault, Allowed}
 use Rattle.laws_third.specs.Demand.{Charging}
 use Rattle.laws_witness.specs.Days.{sees, dayAt, slow, unattended, mild, packs, inputs, stays, warmAt}
 
@@ -46,13 +46,13 @@ placeOf noSuspension = 3
 placeOf notDone = 4
 placeOf noLimit = 5
 
--- the crossed thresholds, VBAT at the charge voltage, and the left sides of the demand's other sentences
+-- the crossed thresholds, VBAT at the charge voltage, where R-1's operators count on an end or on done, and the left sides of the demand's other sentences
 pub data Clause : Type 0 where
   part : Part → Clause
   okInput overInput shorted lowPack overPack tapers belowRecharge full : Clause
   banded : Band → Clause
   reached : Stage → Clause
-  restarted started ends ended : Clause
+  restarted started ends ended staysDone : Clause
   charges inTrickle inPrecharge otherwise clamped : Clause
 
 abbrev pub clauseOf : Clause → Run → Type 0
@@ -71,6 +71,7 @@ clauseOf restarted r = Restarts r
 clauseOf started r = CycleStarts r
 clauseOf ends r = Ends r
 clauseOf ended r = Done r
+clauseOf staysDone r = WasDone r × Allowed r × AtVoltage r
 clauseOf charges r = Charging r
 clauseOf inTrickle r = Charging r × Short r
 clauseOf inPrecharge r = Charging r × (¬ Short r) × Low r
@@ -100,6 +101,7 @@ meeting restarted = dayAt 8
 meeting started = dayAt 10
 meeting ends = warmAt 7900 3
 meeting ended = dayAt 6
+meeting staysDone = warmAt 7900 4
 meeting charges = dayAt 1
 meeting inTrickle = dayAt 1
 meeting inPrecharge = dayAt 2
@@ -128,6 +130,7 @@ failing restarted = dayAt 7
 failing started = dayAt 9
 failing ends = dayAt 6
 failing ended = dayAt 8
+failing staysDone = warmAt 7900 5
 failing charges = dayAt 0
 failing inTrickle = dayAt 2
 failing inPrecharge = dayAt 3
