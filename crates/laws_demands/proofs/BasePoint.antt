@@ -18,7 +18,7 @@ use Rattle.laws_account.specs.History.{upTo, count}
 use Rattle.laws_account.specs.Held.{elapsed, sampleOf}
 use Rattle.laws_account.specs.Refused.{none, some, refusalIn, nextOf, pastOf}
 use Rattle.laws_witness.specs.Days.{warm, warmAt}
-use Rattle.laws_demands.specs.BasePoint.{withRecharge, NeverDone, warmed}
+use Rattle.laws_demands.specs.BasePoint.{withRecharge, NeverDone, untilEnd}
 
 -- below the recharge point no test leads to done
 not-five : (p f s sh lo ta : Bool) → phaseNumber (firstPhase p f s false sh lo ta) ≢ 5
@@ -43,6 +43,6 @@ never-done s observed below =
     subst (λ (b : Bool). phaseNumber (phaseOf (withRecharge t b)) ≢ 5) (sym below) (never t)
 
 -- the customer's log leaves the customer's run
-pub customer-past : pastOf none (warmed 7900) ≡ some (warmAt 7900 3)
+pub customer-past : pastOf none (untilEnd 7900) ≡ some (warmAt 7900 3)
 unfolding pastOf nextOf refusalIn turnOf profileInRange sampleInRange warm upTo count elapsed sampleOf
 customer-past = refl

@@ -67,7 +67,7 @@ use Rattle.laws_demands.specs.Printed.{Log, logFrom, printedBy}
 use Rattle.laws_demands.specs.Second.{Moves, Reports, SecondDemand}
 use Rattle.laws_demands.specs.Refuted.{StepBreaks, ReportBreaks, WalkBreaks, SecondRefuted}
 use Rattle.laws_demands.specs.Wrong.{refusesAlways, reportsZeros, ignoresEvents, worksOnce, inventsTimes, inventsCounts, writesConstant, dropsStray}
-use Rattle.laws_demands.specs.BasePoint.{seenAt, tapered, stepByBase}
+use Rattle.laws_demands.specs.BasePoint.{seenAt, untilTaper, stepByBase}
 use Rattle.laws_demands.specs.Slips.{sameWrite, scalesPrecharge, timesAfter, judgesCool, coolFirst}
 use Rattle.laws_demands.proofs.Days.{paper, sample, seen, sampled, powered, coolDay, paperDay, day, of, differ, no-byte, one-byte}
 use Rattle.laws_demands.proofs.Against.{as-ours, shown-as-ours}
@@ -143,7 +143,7 @@ second-refuted = record {
   scaled = report-breaks _ (λ d. differ 24 120 refl (shown-as-ours _ d coolDay));
   timed = step-breaks _ (λ d. differ 2000 0 refl (ap (of (λ s. s .cycle .fast)) (as-ours _ d powered (Observe sampled))));
   cooled = step-breaks _ (λ d. differ 3 1 refl (ap (of (λ s. bandNumber (s .band))) (as-ours _ d powered (Observe (sample 1000 7600 0 80000 0)))));
-  point = step-breaks _ (λ d. differ 4 5 refl (ap (of (λ s. phaseNumber (s .phase))) (as-ours _ d (tapered 7890) (seenAt 2000 7890 50 40000))));
+  point = step-breaks _ (λ d. differ 4 5 refl (ap (of (λ s. phaseNumber (s .phase))) (as-ours _ d (untilTaper 7890) (seenAt 2000 7890 50 40000))));
   stray = step-breaks _ (λ d. differ 80000 55000 refl (ap (of (λ s. s .sample .ts)) (d .passes (On stray) refl (PowerOn paper))));
   otherCode = parts-break .read readsSwapped (format-refuted .otherCode);
   otherCodeWritten = parts-break .write writesSwapped (format-refuted .otherCodeWritten);

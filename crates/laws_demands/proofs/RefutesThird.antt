@@ -43,13 +43,13 @@ use Rattle.state_parts.specs.declared.state.Model.the-variants.{Off, On}
 use Rattle.log_event.specs.declared.Event.{Event}
 use Rattle.laws_account.specs.Cycles.{Stage, trickle, precharge, fast}
 use Rattle.laws_witness.specs.Days.{warmAt}
-use Rattle.laws_witness.specs.Clauses.{ends, full}
+use Rattle.laws_witness.specs.Clauses.{ends, atVoltage}
 use Rattle.laws_witness.proofs.Clauses.{each-tried}
 use Rattle.laws_demands.specs.Product.{Step, Reporter}
 use Rattle.laws_demands.specs.Refuted.{ThirdRefuted, OperatorsRefuted}
 use Rattle.laws_demands.specs.Wrong.{worksOnce, refusesAlways, ignoresEvents, reportsZeros, inventsTimes, powersOnce}
 use Rattle.laws_demands.specs.Slips.{timesAfter, halvesByNew, keepsTimes}
-use Rattle.laws_demands.specs.BasePoint.{stepByBase, warmed, phasesBy, CustomerTold}
+use Rattle.laws_demands.specs.BasePoint.{stepByBase, untilEnd, phasesBy, CustomerTold}
 use Rattle.laws_demands.proofs.Days.{powered, paperDay, secondIn, unlimitedIn, trickleDay, regulatedDay, restartDay, differ}
 use Rattle.laws_demands.proofs.BasePoint.{customer-past}
 use Rattle.laws_demands.proofs.Against.{after, currentBy, agrees}
@@ -102,7 +102,7 @@ third-refuted = record {
   after = charges-there timesAfter reportOf trickleDay (omega arith) refl;
   halved = charges-there halvesByNew reportOf regulatedDay (omega arith) refl;
   uncleared = rests-there keepsTimes reportOf restartDay refl (omega arith);
-  point = charges-there stepByBase reportOf (warmed 7890) (omega arith) refl;
+  point = charges-there stepByBase reportOf (untilEnd 7890) (omega arith) refl;
 }
 
 -- the customer's log, by this product and by the rule before
@@ -113,4 +113,4 @@ customer-told = record { ours = refl; byBase = refl }
 -- at 7,900 an observation ends the charge, and that rule is in phase 4
 pub operators-refuted : OperatorsRefuted
 unfolding stepByBase stepOf reportOf fastCurrent chargeClampOf chargeVoltageOf inputLimitOf shareOf cutOf baseOf packClampOf inPack belowShare firstOf stateOk movedOf profileOk settingsOk registersOk cycleOk watchdogOk sampleOk setOf observeOf finishOf settledOf testsOf mayHold storeOf writeOf observedOf resetOf settleOf edgesOf merged pulseOf timesOf unitsOf bandOf cycleOf phaseOf permittedOf suspendsOf belowRecharge taperOf endingOf flagsNumber startState heldOf shownOf rangeOf writtenTo countedOf expiredOf clearedIf startSettings resetRegisters startVsysmin takenOf forcedOf latchesOf seenOf regulatedOf clearsOf endsOf judgedOf faultOf reachedOf settingNumbers fieldsAt ranges recounted withByte byteAt startVreg startIchg shortOf lowOf packOverOf restartsOf fields turnedBy changeOf followedOf writtenOf turnOf profileInRange sampleInRange seenOn ranBy
-operators-refuted = record { point = λ d. differ 4 5 refl (d .ends (warmed 7900) (warmAt 7900 3) customer-past (each-tried ends .meets .mayEnd) (each-tried full .meets)) }
+operators-refuted = record { point = λ d. differ 4 5 refl (d .ends (untilEnd 7900) (warmAt 7900 3) customer-past (each-tried ends .meets .mayEnd) (each-tried atVoltage .meets)) }

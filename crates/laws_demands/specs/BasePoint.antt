@@ -56,18 +56,18 @@ NeverDone = (s : State) (observed : Bool) → belowByBase s ≡ true → phaseNu
 abbrev pub seenAt : ℕ → ℕ → ℕ → ℕ → Event
 seenAt stamp level ibat ts = Observe (record { stamp = stamp; input = 12000; pack = level; ibat = pos ibat; ts = ts; bits = 0 })
 
-abbrev pub tapered : ℕ → List Event
-tapered level =
+abbrev pub untilTaper : ℕ → List Event
+untilTaper level =
     PowerOn (record { cell = 2; vchg = 5; ichg = 4; ohms = 0; stamp = 0; ceiling = 4500; trickle = 30; precharge = 40; fast = 20; watchdog = 0 })
     ∷ Write 0x19 0xB7
     ∷ seenAt 1000 level 500 40000
     ∷ []
 
-abbrev pub warmed : ℕ → List Event
-warmed level = tapered level ++ (seenAt 2000 level 50 40000 ∷ [])
+abbrev pub untilEnd : ℕ → List Event
+untilEnd level = untilTaper level ++ (seenAt 2000 level 50 40000 ∷ [])
 
 abbrev pub customer : ℕ → List Event
-customer level = warmed level ++ (seenAt 3000 level 0 40000 ∷ seenAt 4000 level 500 55000 ∷ [])
+customer level = untilEnd level ++ (seenAt 3000 level 0 40000 ∷ seenAt 4000 level 500 55000 ∷ [])
 
 -- the phase after each event
 unfoldable pub phasesBy : Step → Model → List Event → List ℕ

@@ -28,7 +28,7 @@ use Rattle.laws_third.proofs.Cycling.{was-means, reached-means, within-means, r
 use Rattle.laws_third.proofs.Charges.{faulty, chargesAt}
 use Rattle.laws_third.proofs.Charging.{tests-mean}
 use Rattle.laws_witness.specs.Days.{day, slow, unattended, mild, packs, inputs, stays, warm}
-use Rattle.laws_witness.specs.Clauses.{Part, goodInput, permission, noFault, noSuspension, notDone, noLimit, partOf, stopped, placeOf, Clause, part, okInput, overInput, shorted, lowPack, overPack, tapers, belowRecharge, full, banded, reached, restarted, started, ends, ended, staysDone, charges, inTrickle, inPrecharge, otherwise, clamped, clauseOf, meeting, failing, EachTried, EachAlone}
+use Rattle.laws_witness.specs.Clauses.{Part, goodInput, permission, noFault, noSuspension, notDone, noLimit, partOf, stopped, placeOf, Clause, part, okInput, overInput, shorted, lowPack, overPack, tapers, belowRecharge, atVoltage, banded, reached, restarted, started, ends, ended, staysDone, charges, inTrickle, inPrecharge, otherwise, clamped, clauseOf, meeting, failing, EachTried, EachAlone}
 use Rattle.laws_witness.proofs.Accepting.{accepts, accepts-means}
 
 -- the test of each part and of each clause
@@ -73,7 +73,7 @@ test lowPack r = low r
 test overPack r = packOver r
 test tapers r = tapering r
 test belowRecharge r = rechargeDue r
-test full r = leb (millivoltsOf (chargeVoltage r)) (sampleOf r .pack)
+test atVoltage r = leb (millivoltsOf (chargeVoltage r)) (sampleOf r .pack)
 test (banded b) r = eqb (bandNumber (bandAt r)) (bandNumber b)
 test restarted r = restartsNow r
 test started r = starts phaseAt r
@@ -96,7 +96,7 @@ means lowPack r a = low-means r a
 means overPack r a = pack-means r a
 means tapers r a = tapering-means r a
 means belowRecharge r a = recharge-means r a
-means full r a = voltage-means r a
+means atVoltage r a = voltage-means r a
 means (banded b) r a = band-means b r
 means (reached s) r a = reached-means s r a
 means restarted r a = restarts-means r a
@@ -135,7 +135,7 @@ computed lowPack = (refl, refl, refl, refl)
 computed overPack = (refl, refl, refl, refl)
 computed tapers = (refl, refl, refl, refl)
 computed belowRecharge = (refl, refl, refl, refl)
-computed full = (refl, refl, refl, refl)
+computed atVoltage = (refl, refl, refl, refl)
 computed (banded Normal) = (refl, refl, refl, refl)
 computed (banded Cold) = (refl, refl, refl, refl)
 computed (banded Cool) = (refl, refl, refl, refl)

@@ -46,10 +46,10 @@ placeOf noSuspension = 3
 placeOf notDone = 4
 placeOf noLimit = 5
 
--- the crossed thresholds, VBAT at the charge voltage, where R-1's operators count on an end or on done, and the left sides of the demand's other sentences
+-- the crossed thresholds, VBAT at the charge voltage, where R-1's operators count on done, and the left sides of the demand's other sentences
 pub data Clause : Type 0 where
   part : Part → Clause
-  okInput overInput shorted lowPack overPack tapers belowRecharge full : Clause
+  okInput overInput shorted lowPack overPack tapers belowRecharge atVoltage : Clause
   banded : Band → Clause
   reached : Stage → Clause
   restarted started ends ended staysDone : Clause
@@ -64,7 +64,7 @@ clauseOf lowPack r = Low r
 clauseOf overPack r = PackOver r
 clauseOf tapers r = Tapering r
 clauseOf belowRecharge r = BelowRecharge r
-clauseOf full r = AtVoltage r
+clauseOf atVoltage r = AtVoltage r
 clauseOf (banded b) r = InBand b r
 clauseOf (reached s) r = Reached s r
 clauseOf restarted r = Restarts r
@@ -88,7 +88,7 @@ meeting lowPack = packs 5000 5800
 meeting overPack = packs 8800 8600
 meeting tapers = dayAt 4
 meeting belowRecharge = warmAt 7890 5
-meeting full = warmAt 7900 3
+meeting atVoltage = warmAt 7900 3
 meeting (banded Normal) = mild 55000
 meeting (banded Cold) = mild 80000
 meeting (banded Cool) = mild 70000
@@ -117,7 +117,7 @@ failing lowPack = packs 7000 5800
 failing overPack = packs 7000 8600
 failing tapers = dayAt 3
 failing belowRecharge = warmAt 7890 4
-failing full = warmAt 7890 3
+failing atVoltage = warmAt 7890 3
 failing (banded Normal) = mild 70000
 failing (banded Cold) = mild 70000
 failing (banded Cool) = mild 80000
