@@ -1,20 +1,19 @@
 -- At power-on, where no pin has a fault, a pack of no volts is below every point.
-use Prim.Native.Nat.{ℕ, zero, suc, _*_, _%_, _<_, _≤_}
+use Prim.Native.Nat.{ℕ, zero, suc, _*_, _<_, _≤_}
 use native.Mathlib.Omega.{arith}
 use native.Mathlib.Nat.{mul-pos}
 use mathlib.Core.Path.{_≡_, refl}
 use mathlib.Core.Bool.{Bool, true, false, _&&_, _||_, true≢false}
-use mathlib.Core.List.{[], _∷_}
-use lib.Dec.{leb, ltb, eqb, ltb→lt}
-use borrow.Author.Tests.{lt-ltb, ne-eqb}
+use lib.Dec.{leb, eqb}
+use borrow.Author.Tests.{lt-ltb}
 use Rattle.base.specs.Pick.{pick}
 use Rattle.base.specs.Units.{inPack, below, belowShare}
 use Rattle.base.specs.Volts.{packOf}
 use Rattle.base.specs.declared.units.CellMv.{CellMv}
 use Rattle.base.specs.declared.units.PackMv.{PackMv}
-use Rattle.base.proofs.Table.{at}
 use Rattle.base.proofs.Tests.{leb-iff, and-iff}
 use Rattle.state_parts.specs.Pins.{vchgOf}
+use Rattle.state_parts.proofs.Codes.{least-pin}
 use Rattle.state_parts.specs.declared.profile.Profile.{Profile}
 use Rattle.state_valid.specs.Holds.{profileOk}
 use Rattle.laws_account.specs.History.{powered}
@@ -40,9 +39,7 @@ vchg-max p e = let k = simp (and-iff, leb-iff) at e in omega arith
 
 -- a code that is no fault has a voltage
 pos-vchg : (p : Profile) → p .vchg ≤ 7 → 0 < p .vchg → 0 < vchgOf p .0
-pos-vchg p h k =
-    let z : eqb (p .vchg % 8) 0 ≡ false = ne-eqb (p .vchg % 8) 0 (λ e. omega arith) in
-    ltb→lt 0 _ (rw z at (at (λ (i x : ℕ). eqb i 0 || ltb 0 x) (0 ∷ 3500 ∷ 3600 ∷ 4000 ∷ 4100 ∷ 4200 ∷ 4300 ∷ 4350 ∷ []) tt (p .vchg % 8) (omega arith)))
+pos-vchg p h k = omega (arith, least-pin p (omega arith) h)
 
 clear-pins : (a b c : Bool) → ((a || (b && true)) || (c && true)) ≡ false → (a ≡ false) × (b ≡ false)
 clear-pins true b c h = absurd (true≢false h)

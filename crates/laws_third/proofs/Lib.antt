@@ -10,6 +10,7 @@ pub mod Allowing
 pub mod Cycling
 pub mod Charging
 pub mod Beside
+pub mod Tapers
 pub mod Full
 pub mod Amounts
 pub mod Shows

@@ -3,8 +3,6 @@ use Prim.Native.Nat.{ℕ, _*_, _%_, _≤_, min}
 use native.Mathlib.Omega.{arith}
 use mathlib.Core.Path.{_≡_, refl, ap, _∙_}
 use mathlib.Core.Bool.{Bool, true, false}
-use mathlib.Core.List.{[], _∷_}
-use lib.ListN.{getD}
 use lib.Dec.{leb}
 use borrow.Author.Tests.{leb-true, leb-false}
 use Rattle.base.specs.Pick.{pick}
@@ -13,13 +11,13 @@ use Rattle.base.specs.Volts.{millivoltsOf, packOf}
 use Rattle.base.specs.declared.units.CellMv.{CellMv}
 use Rattle.base.specs.declared.units.PackMv.{PackMv}
 use Rattle.base.proofs.Packs.{pack-exact}
-use Rattle.base.proofs.Span.{tested}
-use Rattle.state_parts.specs.Pins.{vchgOf}
+use Rattle.base.proofs.Table.{table-most}
+use Rattle.state_parts.specs.Pins.{vchgTable, vchgOf}
 use Rattle.state_parts.specs.declared.band.Band.{Band}
 use Rattle.state_parts.specs.declared.band.Band.the-variants.{Normal, Cold, Cool, Warm, Hot}
 use Rattle.state_parts.specs.declared.profile.Profile.{Profile}
 use Rattle.state_fields.specs.Rows.{jeitaVset}
-use Rattle.settle_bands.specs.Effect.{warmCut}
+use Rattle.settle_levels.proofs.Least.{highest-cut}
 use Rattle.state_valid.specs.Holds.{profileOk}
 use Rattle.state_valid.proofs.Bounds.{profile-bounds, few-cells}
 use Rattle.state_valid.proofs.Wholes.{Holding, apart}
@@ -46,13 +44,13 @@ cells-most r h = few-cells (profileOf r) (registersAt r) (holding r h .registers
 
 -- the cells' voltages
 vchg-most : (p : Profile) → vchgOf p .0 ≤ 45000
-vchg-most p = leb-true _ 45000 (tested (λ (k : ℕ). leb (getD (0 ∷ 3500 ∷ 3600 ∷ 4000 ∷ 4100 ∷ 4200 ∷ 4300 ∷ 4350 ∷ []) k 0) 45000) 0 8 (p .vchg % 8) refl (omega arith) (omega arith))
+vchg-most p = table-most vchgTable 45000 tt (p .vchg % 8)
 
 cut-most : (b : Band) (r : Run) → cutIn b r .0 ≤ 45000
 cut-most Normal r = omega arith
 cut-most Cold r = omega arith
 cut-most Cool r = omega arith
-cut-most Warm r = leb-true _ 45000 (tested (λ (k : ℕ). leb (warmCut (profileOf r) k .0) 45000) 0 4 (fieldAt jeitaVset r) refl (omega arith) (omega arith))
+cut-most Warm r = omega (arith, highest-cut (profileOf r) (fieldAt jeitaVset r))
 cut-most Hot r = omega arith
 
 either-most : (t : Bool) (a b : CellMv) → a .0 ≤ 45000 → b .0 ≤ 45000 → pick t a b .0 ≤ 45000

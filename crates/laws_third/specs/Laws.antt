@@ -9,7 +9,8 @@ use Rattle.laws_account.specs.Held.{wasReset}
 use Rattle.laws_account.specs.Cycles.{Stage, heldIn, numberAt, timeIn, phaseAt}
 use Rattle.log_event.specs.declared.Event.{Event}
 use Rattle.laws_account.specs.Refused.{Accepted, none, some, pastOf}
-use Rattle.laws_third.specs.Banded.{AtVoltage}
+use Rattle.laws_third.specs.Crossed.{PinFault}
+use Rattle.laws_third.specs.Banded.{Tapering, BelowRecharge, AtVoltage}
 use Rattle.laws_third.specs.Allowed.{Allowed}
 use Rattle.laws_third.specs.Stages.{WasDone, CycleStarts, StartedAt, timeSince, Reached, MayEnd, Ends, Done}
 
@@ -50,6 +51,10 @@ EndsAtVoltage = (r : Run) → Accepted r → MayEnd r → AtVoltage r → Ends r
 -- and no cycle that is done starts again there
 abbrev pub StaysAtVoltage : Type 0
 StaysAtVoltage = (r : Run) → Accepted r → WasDone r → Allowed r → AtVoltage r → (¬ CycleStarts r) × (numberAt phaseAt r ≡ 5)
+
+-- 02, R-2: "The pack test group can't build a taper sample below R-1's recharge point." After no run of accepted events is there one, unless a pin fault forbids the charge anyway
+abbrev pub TapersAbovePoint : Type 0
+TapersAbovePoint = (r : Run) → Accepted r → ¬ PinFault r → Tapering r → ¬ BelowRecharge r
 
 -- none of this is of runs that no list of events leaves: every run of accepted events is left by one
 abbrev pub EveryRunLeft : Type 0

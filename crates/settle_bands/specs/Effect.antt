@@ -1,7 +1,7 @@
 -- 01, "Settling, in order": what a band does. Fields are those of source document 000, table 6-32.
 use Prim.Native.Nat.{ℕ}
 use mathlib.Core.Bool.{Bool, true, false}
-use mathlib.Core.List.{[], _∷_}
+use mathlib.Core.List.{List, [], _∷_}
 use lib.ListN.{getD}
 use lib.Dec.{eqb}
 use Rattle.base.specs.Pick.{pick}
@@ -50,8 +50,11 @@ isWarm Warm = true
 isWarm Hot = false
 
 -- "less in warm 250, 100 or 0 per cell (JEITA_VSET 1-3)."
+abbrev pub warmCuts : List ℕ
+warmCuts = 0 ∷ 250 ∷ 100 ∷ 0 ∷ []
+
 abbrev pub warmCut : Profile → ℕ → CellMv
-warmCut p code = record { 0 = getD (0 ∷ 250 ∷ 100 ∷ 0 ∷ []) code 0 }
+warmCut p code = record { 0 = getD warmCuts code 0 }
 
 unfoldable pub cutOf : Profile → Registers → Band → CellMv
 cutOf p g b = pick (isWarm b) (warmCut p (fieldOf jeitaVset g)) (record { 0 = 0 })

@@ -1,3 +1,4 @@
 -- The laws of the crate.
+pub mod Least
 pub mod Points
 pub mod Rest

@@ -1,7 +1,7 @@
 -- 01, "Settling, in order": the charge voltage, taper and the recharge point.
 use Prim.Native.Nat.{ℕ, _%_}
 use mathlib.Core.Bool.{Bool}
-use mathlib.Core.List.{[], _∷_}
+use mathlib.Core.List.{List, [], _∷_}
 use lib.ListN.{getD}
 use Rattle.settle_bands.specs.Effect.{cutOf}
 use Rattle.base.specs.Units.{inPack, lessOf, belowShare, within}
@@ -24,8 +24,11 @@ taperOf charge x = within (packOf (x .pack)) charge 10
 
 -- "VBAT is below 92.7, 94.1, 95.5, 97% .. by VRECHG 0-3": the recharge point, a share of the charge voltage. 02, R-1: "The recharge point, both for ending and for restarting, is
 -- taken from the charge voltage after the band's cut."
+abbrev pub rechargeShares : List ℕ
+rechargeShares = 927 ∷ 941 ∷ 955 ∷ 970 ∷ []
+
 abbrev pub rechargeShareAt : Profile → ℕ → ℕ
-rechargeShareAt p code = getD (927 ∷ 941 ∷ 955 ∷ 970 ∷ []) code 0
+rechargeShareAt p code = getD rechargeShares code 0
 
 abbrev pub rechargeShare : Profile → Settings → ℕ
 rechargeShare p s = rechargeShareAt p (s .vrechg % 4)

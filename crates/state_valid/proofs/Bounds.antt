@@ -26,6 +26,7 @@ pub record ProfileBounds (p : Profile) : Type 0 where
   pub vchg : p .vchg ≤ 7
   pub ichg : p .ichg ≤ 7
   pub ohms : p .ohms ≤ 33000
+  pub ceilingLeast : 4350 ≤ p .ceiling
   pub ceiling : p .ceiling ≤ 4714
   pub trickle : p .trickle ≤ 172800
   pub precharge : p .precharge ≤ 172800
@@ -41,6 +42,7 @@ profile-bounds p e =
       vchg = omega arith;
       ichg = omega arith;
       ohms = omega arith;
+      ceilingLeast = omega arith;
       ceiling = omega arith;
       trickle = omega arith;
       precharge = omega arith;

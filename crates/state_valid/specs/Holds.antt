@@ -1,6 +1,7 @@
 -- 01: "a handed-in model's field outside what it may hold" (5). What each part may hold: each field by itself, in the range that accepted events can give it.
 use Prim.Native.Nat.{ℕ, _+_, _*_}
-use mathlib.Core.Bool.{Bool, not, _&&_, _||_}
+use mathlib.Core.Path.{_≡_}
+use mathlib.Core.Bool.{Bool, true, not, _&&_, _||_}
 use lib.Dec.{leb, ltb, eqb}
 use lib.IntN.{pos, negsuc}
 use lib.Signed.{leZ}
@@ -13,6 +14,7 @@ use Rattle.state_parts.specs.declared.phase.Phase.{Phase}
 use Rattle.state_parts.specs.declared.profile.Profile.{Profile}
 use Rattle.state_parts.specs.declared.registers.Registers.{Registers}
 use Rattle.state_parts.specs.declared.sample.Sample.{Sample}
+use Rattle.state_parts.specs.declared.settings.Settings.{Settings}
 use Rattle.state_parts.specs.declared.state.State.{State}
 use Rattle.state_parts.specs.declared.watchdog.Watchdog.{Watchdog}
 use Rattle.state_settings.specs.Kept.{settingsOk}
@@ -58,3 +60,9 @@ unfoldable pub stateOk : State → Bool
 stateOk s =
     profileOk (s .profile) && settingsOk (s .profile) (s .settings) && registersOk (s .profile) (s .registers) && cycleOk (s .cycle) (s .profile) (s .phase)
     && watchdogOk (s .watchdog) (s .profile) && sampleOk (s .sample) && leb (s .flags) allFlags
+
+-- what the voltages go by holds what it may, whatever else the state holds: what an observation settles may hold a stage's time past its limit
+pub record PartsPass (p : Profile) (s : Settings) (g : Registers) : Type 0 where
+  pub profile : profileOk p ≡ true
+  pub settings : settingsOk p s ≡ true
+  pub registers : registersOk p g ≡ true
