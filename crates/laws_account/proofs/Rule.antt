@@ -15,7 +15,7 @@ listed t =
     pick (not (t .permitted)) Idle
     (pick (t .fault) Fault
     (pick (t .suspended) Suspended
-    (pick (t .done && not (t .recharge) || t .observed && t .tapered && (not (t .short) && not (t .low) && t .taper && t .ending && not (t .recharge))) Done
+    (pick (t .done && not (t .recharge) || t .observed && t .tapered && (not (t .short) && not (t .low) && t .taper && t .ending)) Done
     (pick (t .short) Trickle
     (pick (t .low) Precharge
     (pick (t .taper) Taper
@@ -62,8 +62,7 @@ same true false false true true false false false false tp en h = record { phase
 same true false false false re true lo ta true true en h = record { phase = refl; done = refl; clear = refl }
 same true false false false re false true ta true true en h = record { phase = refl; done = refl; clear = refl }
 same true false false false re false false true true true false h = record { phase = refl; done = refl; clear = refl }
-same true false false false true false false true true true true h = record { phase = refl; done = refl; clear = refl }
-same true false false false false false false true true true true h = record { phase = refl; done = refl; clear = refl }
+same true false false false re false false true true true true h = record { phase = refl; done = refl; clear = refl }
 same true false false false re false false false true true en h = record { phase = refl; done = refl; clear = refl }
 same true false false false re true lo ta true false en h = record { phase = refl; done = refl; clear = refl }
 same true false false false re false true ta true false en h = record { phase = refl; done = refl; clear = refl }

@@ -81,12 +81,12 @@ module _ (P : Run → Phase) where
   unfoldable pub fault : Run → Bool
   fault r = shutdownOf (sampleOf r) || packOver r || (limitFound trickle r || limitFound precharge r || limitFound fast r)
 
-  -- "Done begins .. only on an observation: phase 4 held before it and judged after it, EN_TERM, IBAT < ITERM, no regulation, VBAT not below the recharge point."
+  -- "Done begins .. only on an observation: phase 4 held before it and judged after it, EN_TERM, IBAT < ITERM, no regulation"; 02, R-2: "One test fewer", that of the recharge point
   unfoldable pub chargeEnds : Run → Bool
   chargeEnds (powered p) = false
   chargeEnds (r ▸ e) =
       wasObserved (r ▸ e) && eqb (numberAt r) 4
-      && (not (short (r ▸ e)) && not (low (r ▸ e)) && tapering (r ▸ e) && ending (r ▸ e) && not (rechargeDue (r ▸ e)))
+      && (not (short (r ▸ e)) && not (low (r ▸ e)) && tapering (r ▸ e) && ending (r ▸ e))
 
   -- "Phase, first that holds: 0 idle, no permission; 7 fault, ..; 6 suspended, ..; 5 done; 1 trickle (short); 2 precharge (low); 4 taper, ..; 3 fast."
   unfoldable pub phaseBy : Run → Phase

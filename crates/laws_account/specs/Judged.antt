@@ -133,8 +133,7 @@ permitted r = inputGood r && not (highZ r) && enabled 9 r && not (ceHigh (sample
 unfoldable pub tapering : Run → Bool
 tapering r = within (vbat r) (chargeVoltage r) 10
 
--- "VBAT is below 92.7, 94.1, 95.5, 97% .. by VRECHG 0-3", and 02, R-1: "The recharge point, both for ending and for restarting, is taken from the charge voltage after the band's
--- cut."
+-- "VBAT is below 92.7, 94.1, 95.5, 97% .. by VRECHG 0-3", and 02, R-1: "The recharge point .. is taken from the charge voltage after the band's cut."
 unfoldable pub rechargeDue : Run → Bool
 rechargeDue r = belowShare (vbat r) (chargeVoltage r) (rechargeShareAt (profileOf r) (settingOf 8 r % 4))
 

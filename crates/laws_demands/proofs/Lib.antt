@@ -12,6 +12,7 @@ pub mod HoldsThird
 pub mod Only
 pub mod Parts
 pub mod Operators
+pub mod EndTest
 pub mod BasePoint
 mod Invented
 pub mod RefutesFirst

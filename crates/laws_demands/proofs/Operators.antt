@@ -12,7 +12,7 @@ use Rattle.laws_account.specs.Refused.{Accepted, none, some, pastOf}
 use Rattle.laws_account.specs.Runs.{Lawful}
 use Rattle.laws_account.specs.States.{stateBy, stateOf, modelOf}
 use Rattle.laws_account.proofs.Logging.{past-lawful}
-use Rattle.laws_third.proofs.Full.{ends-at-voltage, stays-at-voltage}
+use Rattle.laws_third.proofs.Full.{ends-in-five, stays-at-voltage}
 use Rattle.laws_third.proofs.Third.{ran-is}
 use Rattle.laws_demands.specs.Printed.{reportIn}
 use Rattle.laws_demands.specs.Operators.{SaysDone, OperatorsHold}
@@ -30,6 +30,6 @@ module _ (es : List Event) (r : Run) (e : pastOf none es ≡ some r) where
 
 pub operators-hold : OperatorsHold
 operators-hold = record {
-  ends = λ es r e may at. says es r e (ends-at-voltage r (accepted es r e) may at .1);
+  ends = λ es r e ends. says es r e (ends-in-five r (accepted es r e) ends);
   stays = λ es r e was may at. says es r e (stays-at-voltage r (accepted es r e) was may at .1);
 }

@@ -67,7 +67,8 @@ use Rattle.laws_demands.specs.Printed.{Log, logFrom, printedBy}
 use Rattle.laws_demands.specs.Second.{Moves, Reports, SecondDemand}
 use Rattle.laws_demands.specs.Refuted.{StepBreaks, ReportBreaks, WalkBreaks, SecondRefuted}
 use Rattle.laws_demands.specs.Wrong.{refusesAlways, reportsZeros, ignoresEvents, worksOnce, inventsTimes, inventsCounts, writesConstant, dropsStray}
-use Rattle.laws_demands.specs.BasePoint.{seenAt, untilTaper, stepByBase}
+use Rattle.laws_demands.specs.BasePoint.{seenAt, untilTaper, untilEnd, stepByBase}
+use Rattle.laws_demands.specs.EndTest.{neverRestarts}
 use Rattle.laws_demands.specs.Slips.{sameWrite, scalesPrecharge, timesAfter, judgesCool, coolFirst}
 use Rattle.laws_demands.proofs.Days.{paper, sample, seen, sampled, powered, coolDay, paperDay, day, of, differ, no-byte, one-byte}
 use Rattle.laws_demands.proofs.Against.{as-ours, shown-as-ours}
@@ -128,7 +129,7 @@ constant bytes d =
     differ 6 7 refl (ap left (sym (d .written Service (6 ∷ []) (paper-bytes .service) (0 ∷ []) (omega arith)) ∙ d .written Reset (7 ∷ []) (paper-bytes .reset) (0 ∷ []) (omega arith)))
 
 pub second-refuted : SecondRefuted
-unfolding modelOk stepByBase refusesAlways reportsZeros ignoresEvents worksOnce sameWrite scalesPrecharge timesAfter judgesCool coolFirst dropsStray stepOf reportOf fastCurrent chargeClampOf chargeVoltageOf inputLimitOf shareOf cutOf baseOf packClampOf inPack belowShare firstOf stateOk movedOf profileOk settingsOk registersOk cycleOk watchdogOk sampleOk setOf observeOf finishOf settledOf testsOf mayHold storeOf writeOf observedOf resetOf settleOf edgesOf merged pulseOf timesOf unitsOf bandOf cycleOf phaseOf permittedOf suspendsOf belowRecharge taperOf endingOf flagsNumber startState heldOf shownOf rangeOf writtenTo countedOf expiredOf clearedIf startSettings resetRegisters startVsysmin takenOf forcedOf latchesOf seenOf regulatedOf clearsOf endsOf judgedOf faultOf reachedOf settingNumbers fieldsAt ranges recounted withByte byteAt startVreg startIchg shortOf lowOf packOverOf restartsOf fields turnedBy changeOf followedOf writtenOf turnOf profileInRange sampleInRange seenOn ranBy
+unfolding modelOk stepByBase neverRestarts refusesAlways reportsZeros ignoresEvents worksOnce sameWrite scalesPrecharge timesAfter judgesCool coolFirst dropsStray stepOf reportOf fastCurrent chargeClampOf chargeVoltageOf inputLimitOf shareOf cutOf baseOf packClampOf inPack belowShare firstOf stateOk movedOf profileOk settingsOk registersOk cycleOk watchdogOk sampleOk setOf observeOf finishOf settledOf testsOf mayHold storeOf writeOf observedOf resetOf settleOf edgesOf merged pulseOf timesOf unitsOf bandOf cycleOf phaseOf permittedOf suspendsOf belowRecharge taperOf endingOf flagsNumber startState heldOf shownOf rangeOf writtenTo countedOf expiredOf clearedIf startSettings resetRegisters startVsysmin takenOf forcedOf latchesOf seenOf regulatedOf clearsOf endsOf judgedOf faultOf reachedOf settingNumbers fieldsAt ranges recounted withByte byteAt startVreg startIchg shortOf lowOf packOverOf restartsOf fields turnedBy changeOf followedOf writtenOf turnOf profileInRange sampleInRange seenOn ranBy
 second-refuted = record {
   refuses = λ r. step-breaks _ (λ d.
       let z : refusalNumber r ≡ 0 = ap (λ (o : Outcome). o .number) (as-ours _ d [] (PowerOn paper)) in
@@ -144,6 +145,7 @@ second-refuted = record {
   timed = step-breaks _ (λ d. differ 2000 0 refl (ap (of (λ s. s .cycle .fast)) (as-ours _ d powered (Observe sampled))));
   cooled = step-breaks _ (λ d. differ 3 1 refl (ap (of (λ s. bandNumber (s .band))) (as-ours _ d powered (Observe (sample 1000 7600 0 80000 0)))));
   point = step-breaks _ (λ d. differ 4 5 refl (ap (of (λ s. phaseNumber (s .phase))) (as-ours _ d (untilTaper 7890) (seenAt 2000 7890 50 40000))));
+  restart = step-breaks _ (λ d. differ 5 3 refl (ap (of (λ s. phaseNumber (s .phase))) (as-ours _ d (untilEnd 7890) (seenAt 3000 7890 500 55000))));
   stray = step-breaks _ (λ d. differ 80000 55000 refl (ap (of (λ s. s .sample .ts)) (d .passes (On stray) refl (PowerOn paper))));
   otherCode = parts-break .read readsSwapped (format-refuted .otherCode);
   otherCodeWritten = parts-break .write writesSwapped (format-refuted .otherCodeWritten);

@@ -43,13 +43,14 @@ use Rattle.state_parts.specs.declared.state.Model.the-variants.{Off, On}
 use Rattle.log_event.specs.declared.Event.{Event}
 use Rattle.laws_account.specs.Cycles.{Stage, trickle, precharge, fast}
 use Rattle.laws_witness.specs.Days.{warmAt}
-use Rattle.laws_witness.specs.Clauses.{ends, atVoltage}
+use Rattle.laws_witness.specs.Clauses.{ends}
 use Rattle.laws_witness.proofs.Clauses.{each-tried}
 use Rattle.laws_demands.specs.Product.{Step, Reporter}
 use Rattle.laws_demands.specs.Refuted.{ThirdRefuted, OperatorsRefuted}
 use Rattle.laws_demands.specs.Wrong.{worksOnce, refusesAlways, ignoresEvents, reportsZeros, inventsTimes, powersOnce}
 use Rattle.laws_demands.specs.Slips.{timesAfter, halvesByNew, keepsTimes}
-use Rattle.laws_demands.specs.BasePoint.{stepByBase, untilEnd, phasesBy, CustomerTold}
+use Rattle.laws_demands.specs.BasePoint.{stepByBase, untilEnd, customer, phasesBy, CustomerTold}
+use Rattle.laws_demands.specs.EndTest.{neverRestarts}
 use Rattle.laws_demands.proofs.Days.{powered, paperDay, secondIn, unlimitedIn, trickleDay, regulatedDay, restartDay, differ}
 use Rattle.laws_demands.proofs.BasePoint.{customer-past}
 use Rattle.laws_demands.proofs.Against.{after, currentBy, agrees}
@@ -91,7 +92,7 @@ made s zero = never s
 made s (suc t) = some-time s t
 
 pub third-refuted : ThirdRefuted
-unfolding refusesAlways ignoresEvents worksOnce powersOnce timesAfter halvesByNew keepsTimes stepByBase stepOf reportOf fastCurrent chargeClampOf chargeVoltageOf inputLimitOf shareOf cutOf baseOf packClampOf inPack belowShare firstOf stateOk movedOf profileOk settingsOk registersOk cycleOk watchdogOk sampleOk setOf observeOf finishOf settledOf testsOf mayHold storeOf writeOf observedOf resetOf settleOf edgesOf merged pulseOf timesOf unitsOf bandOf cycleOf phaseOf permittedOf suspendsOf belowRecharge taperOf endingOf flagsNumber startState heldOf shownOf rangeOf writtenTo countedOf expiredOf clearedIf startSettings resetRegisters startVsysmin takenOf forcedOf latchesOf seenOf regulatedOf clearsOf endsOf judgedOf faultOf reachedOf settingNumbers fieldsAt ranges recounted withByte byteAt startVreg startIchg shortOf lowOf packOverOf restartsOf fields turnedBy changeOf followedOf writtenOf turnOf profileInRange sampleInRange seenOn ranBy
+unfolding refusesAlways ignoresEvents worksOnce powersOnce timesAfter halvesByNew keepsTimes stepByBase neverRestarts stepOf reportOf fastCurrent chargeClampOf chargeVoltageOf inputLimitOf shareOf cutOf baseOf packClampOf inPack belowShare firstOf stateOk movedOf profileOk settingsOk registersOk cycleOk watchdogOk sampleOk setOf observeOf finishOf settledOf testsOf mayHold storeOf writeOf observedOf resetOf settleOf edgesOf merged pulseOf timesOf unitsOf bandOf cycleOf phaseOf permittedOf suspendsOf belowRecharge taperOf endingOf flagsNumber startState heldOf shownOf rangeOf writtenTo countedOf expiredOf clearedIf startSettings resetRegisters startVsysmin takenOf forcedOf latchesOf seenOf regulatedOf clearsOf endsOf judgedOf faultOf reachedOf settingNumbers fieldsAt ranges recounted withByte byteAt startVreg startIchg shortOf lowOf packOverOf restartsOf fields turnedBy changeOf followedOf writtenOf turnOf profileInRange sampleInRange seenOn ranBy
 third-refuted = record {
   refuses = λ r report. rests-there (refusesAlways r) report paperDay refl (omega arith);
   zeros = λ step. rests-there step reportsZeros paperDay (zero-always (ranBy step Off paperDay)) (omega arith);
@@ -103,14 +104,15 @@ third-refuted = record {
   halved = charges-there halvesByNew reportOf regulatedDay (omega arith) refl;
   uncleared = rests-there keepsTimes reportOf restartDay refl (omega arith);
   point = charges-there stepByBase reportOf (untilEnd 7890) (omega arith) refl;
+  restart = rests-there neverRestarts reportOf (customer 7890) refl (omega arith);
 }
 
 -- the customer's log, by this product and by the rule before
 pub customer-told : CustomerTold
-unfolding phasesBy stepByBase stepOf reportOf fastCurrent chargeClampOf chargeVoltageOf inputLimitOf shareOf cutOf baseOf packClampOf inPack belowShare firstOf stateOk movedOf profileOk settingsOk registersOk cycleOk watchdogOk sampleOk setOf observeOf finishOf settledOf testsOf mayHold storeOf writeOf observedOf resetOf settleOf edgesOf merged pulseOf timesOf unitsOf bandOf cycleOf phaseOf permittedOf suspendsOf belowRecharge taperOf endingOf flagsNumber startState heldOf shownOf rangeOf writtenTo countedOf expiredOf clearedIf startSettings resetRegisters startVsysmin takenOf forcedOf latchesOf seenOf regulatedOf clearsOf endsOf judgedOf faultOf reachedOf settingNumbers fieldsAt ranges recounted withByte byteAt startVreg startIchg shortOf lowOf packOverOf restartsOf fields turnedBy changeOf followedOf writtenOf turnOf profileInRange sampleInRange seenOn ranBy
-customer-told = record { ours = refl; byBase = refl }
+unfolding phasesBy stepByBase neverRestarts stepOf reportOf fastCurrent chargeClampOf chargeVoltageOf inputLimitOf shareOf cutOf baseOf packClampOf inPack belowShare firstOf stateOk movedOf profileOk settingsOk registersOk cycleOk watchdogOk sampleOk setOf observeOf finishOf settledOf testsOf mayHold storeOf writeOf observedOf resetOf settleOf edgesOf merged pulseOf timesOf unitsOf bandOf cycleOf phaseOf permittedOf suspendsOf belowRecharge taperOf endingOf flagsNumber startState heldOf shownOf rangeOf writtenTo countedOf expiredOf clearedIf startSettings resetRegisters startVsysmin takenOf forcedOf latchesOf seenOf regulatedOf clearsOf endsOf judgedOf faultOf reachedOf settingNumbers fieldsAt ranges recounted withByte byteAt startVreg startIchg shortOf lowOf packOverOf restartsOf fields turnedBy changeOf followedOf writtenOf turnOf profileInRange sampleInRange seenOn ranBy
+customer-told = record { ours = refl; byBase = refl; unrestarted = refl }
 
 -- at 7,900 an observation ends the charge, and that rule is in phase 4
 pub operators-refuted : OperatorsRefuted
 unfolding stepByBase stepOf reportOf fastCurrent chargeClampOf chargeVoltageOf inputLimitOf shareOf cutOf baseOf packClampOf inPack belowShare firstOf stateOk movedOf profileOk settingsOk registersOk cycleOk watchdogOk sampleOk setOf observeOf finishOf settledOf testsOf mayHold storeOf writeOf observedOf resetOf settleOf edgesOf merged pulseOf timesOf unitsOf bandOf cycleOf phaseOf permittedOf suspendsOf belowRecharge taperOf endingOf flagsNumber startState heldOf shownOf rangeOf writtenTo countedOf expiredOf clearedIf startSettings resetRegisters startVsysmin takenOf forcedOf latchesOf seenOf regulatedOf clearsOf endsOf judgedOf faultOf reachedOf settingNumbers fieldsAt ranges recounted withByte byteAt startVreg startIchg shortOf lowOf packOverOf restartsOf fields turnedBy changeOf followedOf writtenOf turnOf profileInRange sampleInRange seenOn ranBy
-operators-refuted = record { point = λ d. differ 4 5 refl (d .ends (untilEnd 7900) (warmAt 7900 3) customer-past (each-tried ends .meets .mayEnd) (each-tried atVoltage .meets)) }
+operators-refuted = record { point = λ d. differ 4 5 refl (d .ends (untilEnd 7900) (warmAt 7900 3) customer-past (each-tried ends .meets)) }

@@ -13,40 +13,25 @@ use Rattle.log_event.specs.declared.Event.{Event}
 use Rattle.log_event.specs.declared.Event.the-variants.{PowerOn, Write, Observe}
 use Rattle.settle_levels.specs.Clamps.{baseOf}
 use Rattle.settle_levels.specs.Voltage.{belowRecharge}
-use Rattle.settle_phases.specs.declared.tests.Tests.{Tests}
 use Rattle.settle_all.specs.Gather.{testsOf}
 use Rattle.settle_all.specs.Settle.{Tester, settleBy}
+use Rattle.settle_all.specs.EndTested.{endTested}
 use Rattle.report_state.specs.Report.{reportOf}
-use Rattle.step_turns.specs.Turns.{turnOf}
-use Rattle.step_kinds.specs.Finish.{finishBy}
-use Rattle.step_event.specs.Steps.{endedBy, changeOf, stepOf}
+use Rattle.step_event.specs.Steps.{stepOf}
 use Rattle.laws_demands.specs.Product.{Step}
 use Rattle.laws_demands.specs.Printed.{reportIn}
+use Rattle.laws_demands.specs.EndTest.{stepBy, neverRestarts}
 
 -- "VBAT is below 92.7, 94.1, 95.5, 97% of base by VRECHG 0-3"
 abbrev pub belowByBase : State → Bool
 belowByBase s = belowRecharge (s .profile) (s .settings) (baseOf (s .profile) (s .settings) (s .registers)) (s .sample)
 
-abbrev pub withRecharge : Tests → Bool → Tests
-withRecharge t recharge = record {
-  permitted = t .permitted;
-  fault = t .fault;
-  suspended = t .suspended;
-  done = t .done;
-  recharge = recharge;
-  short = t .short;
-  low = t .low;
-  taper = t .taper;
-  observed = t .observed;
-  tapered = t .tapered;
-  ending = t .ending;
-}
-
+-- for ending and for restarting
 abbrev pub testsByBase : Tester
-testsByBase s k b observed = withRecharge (testsOf s k b observed) (belowByBase s)
+testsByBase s k b observed = endTested (testsOf s k b observed) (belowByBase s)
 
 unfoldable pub stepByBase : Step
-stepByBase m e = endedBy (finishBy (settleBy testsByBase)) m (changeOf m (turnOf e))
+stepByBase m e = stepBy testsByBase m e
 
 -- "packs that taper for ever": by that rule no settling comes to phase 5 below its point, whatever the band and the charge voltage
 abbrev pub NeverDone : Type 0
@@ -74,7 +59,8 @@ unfoldable pub phasesBy : Step → Model → List Event → List ℕ
 phasesBy step m [] = []
 phasesBy step m (e ∷ es) = phaseNumber (reportIn reportOf (step m e .model) .phase) ∷ phasesBy step (step m e .model) es
 
--- by this product done at 7,890, and restarted by the band alone; by that rule in taper for as long as it is warm
+-- by this product done at 7,890, and restarted by the band alone; by that rule in taper for as long as it is warm; and done for ever where the restart has no test
 pub record CustomerTold : Type 0 where
   pub ours : phasesBy stepOf Off (customer 7890) ≡ 0 ∷ 0 ∷ 4 ∷ 5 ∷ 5 ∷ 3 ∷ []
   pub byBase : phasesBy stepByBase Off (customer 7890) ≡ 0 ∷ 0 ∷ 4 ∷ 4 ∷ 4 ∷ 3 ∷ []
+  pub unrestarted : phasesBy neverRestarts Off (customer 7890) ≡ 0 ∷ 0 ∷ 4 ∷ 5 ∷ 5 ∷ 5 ∷ []

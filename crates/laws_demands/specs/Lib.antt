@@ -9,5 +9,6 @@ pub mod Only
 pub mod Wrong
 pub mod Slips
 pub mod Operators
+pub mod EndTest
 pub mod BasePoint
 pub mod Refuted

@@ -16,7 +16,8 @@ use Rattle.laws_demands.specs.First.{FirstDemand}
 use Rattle.laws_demands.specs.Second.{SecondDemand}
 use Rattle.laws_demands.specs.Third.{ThirdDemand}
 use Rattle.laws_demands.specs.Wrong.{forgets, stopsAlways, spills, refusesAlways, reportsZeros, ignoresEvents, worksOnce, inventsTimes, inventsCounts, writesConstant, dropsStray, powersOnce}
-use Rattle.laws_demands.specs.Operators.{DoneAtVoltage}
+use Rattle.laws_demands.specs.Operators.{CountedOn}
+use Rattle.laws_demands.specs.EndTest.{neverRestarts}
 use Rattle.laws_demands.specs.BasePoint.{stepByBase}
 use Rattle.laws_demands.specs.Slips.{sameWrite, scalesPrecharge, timesAfter, judgesCool, halvesByNew, keepsTimes}
 
@@ -61,6 +62,8 @@ pub record SecondRefuted : Type 0 where
   pub cooled : StepBreaks judgesCool
   -- the rule before 02, R-1
   pub point : StepBreaks stepByBase
+  -- 02, R-2 taken too far: a restart that has no test
+  pub restart : StepBreaks neverRestarts
   -- right after every run, and wrong on a model that passes but that no run leaves
   pub stray : StepBreaks dropsStray
   -- another byte code; a record read at place 0 alone; one number for whatever can't be read, and two that are swapped
@@ -90,10 +93,12 @@ pub record ThirdRefuted : Type 0 where
   pub uncleared : ¬ ThirdOfLists keepsTimes reportOf
   -- the rule before 02, R-1: the customer's pack charges where the cycle is done
   pub point : ¬ ThirdOfLists stepByBase reportOf
+  -- 02, R-2 taken too far: it rests where a new cycle has started
+  pub restart : ¬ ThirdOfLists neverRestarts reportOf
 
 -- and of what the operators may count on
 pub record OperatorsRefuted : Type 0 where
-  pub point : ¬ DoneAtVoltage stepByBase reportOf
+  pub point : ¬ CountedOn stepByBase reportOf
 
 -- what breaks the part that a call is held to breaks the demand, whatever the rest of the product is like: so the wrong readers and writers, comparisons and calls for C that
 -- `FormatRefuted`, `PairsRefuted` and `HeadsRefuted` have break it too

@@ -163,32 +163,26 @@ unfolding chargeEnds
 ends-means (powered p) a =
     record {
       fact = λ t. absurd (never (mayCharge (powered p)) (not (limitReached phaseAt (powered p))) t);
-      test = λ h. absurd (h .mayEnd .before);
+      test = λ h. absurd (h .before);
     }
 ends-means (r ▸ e) a =
     re-means
     (λ h. record {
-      mayEnd = record {
-        observed = h .1 .1 .0 .0;
-        before = h .1 .1 .0 .1;
-        allowed = h .0;
-        within = h .1 .0;
-        charged = (h .1 .1 .1 .0 .0 .0 .0, h .1 .1 .1 .0 .0 .0 .1, h .1 .1 .1 .0 .0 .1);
-        enabled = h .1 .1 .1 .0 .1 .0;
-        weak = h .1 .1 .1 .0 .1 .1;
-        unregulated = h .1 .1 .1 .0 .1 .2;
-      };
-      full = h .1 .1 .1 .1;
+      observed = h .1 .1 .0 .0;
+      before = h .1 .1 .0 .1;
+      allowed = h .0;
+      within = h .1 .0;
+      charged = (h .1 .1 .1 .0 .0 .0, h .1 .1 .1 .0 .0 .1, h .1 .1 .1 .0 .1);
+      enabled = h .1 .1 .1 .1 .0;
+      weak = h .1 .1 .1 .1 .1;
+      unregulated = h .1 .1 .1 .1 .2;
     })
-    (λ h.
-    let k = h .mayEnd in
-    (k .allowed, (k .within, ((k .observed, k .before), ((((k .charged .0, k .charged .1), k .charged .2), (k .enabled, k .weak, k .unregulated)), h .full)))))
+    (λ k.
+    (k .allowed, (k .within, ((k .observed, k .before), (((k .charged .0, k .charged .1), k .charged .2), (k .enabled, k .weak, k .unregulated))))))
     (and-means (may-means (r ▸ e) a)
     (and-means (within-means (r ▸ e) a)
     (and-means (and-means (true-means (wasObserved (r ▸ e))) (eqb-means (numberAt phaseAt r) 4))
-    (and-means
-    (and-means (and-means (and-means (not-means (short-means (r ▸ e) a)) (not-means (low-means (r ▸ e) a))) (tapering-means (r ▸ e) a)) (ending-means (r ▸ e)))
-    (not-means (recharge-means (r ▸ e) a))))))
+    (and-means (and-means (and-means (not-means (short-means (r ▸ e) a)) (not-means (low-means (r ▸ e) a))) (tapering-means (r ▸ e) a)) (ending-means (r ▸ e))))))
 
 -- done
 pub done-means : (r : Run) → Accepted r → Means (isDone phaseAt r) (Done r)

@@ -123,7 +123,7 @@ module _ (r : Run) (e : Later) where
           go false e = refl
           go true e = absurd (omega (arith, eqb-iff n 4 .0 e, leb-iff 5 n .0 h))
 
-      left : (o : Bool) → (o && false && (not (short here) && not (low here) && tapering here && ending here && not (rechargeDue here))) ≡ false
+      left : (o : Bool) → (o && false && (not (short here) && not (low here) && tapering here && ending here)) ≡ false
       left true = refl
       left false = refl
 

@@ -1,4 +1,4 @@
--- 02, R-1: at the charge voltage a charge that may end ends, and one that is done stays done.
+-- Done is phase 5, from the observation that ends the charge on; and 02, R-1: at the charge voltage a cycle that is done stays so.
 use Prim.Native.Nat.{_%_, _≤_}
 use native.Mathlib.Omega.{arith}
 use mathlib.Core.Path.{_≡_, sym, subst, _∙_}
@@ -13,8 +13,8 @@ use Rattle.laws_account.specs.Valued.{settingOf}
 use Rattle.laws_account.specs.Cycles.{numberAt, phaseAt}
 use Rattle.laws_third.specs.Banded.{chargeTo, BelowRecharge, AtVoltage}
 use Rattle.laws_third.specs.Allowed.{Allowed}
-use Rattle.laws_third.specs.Stages.{WasDone, CycleStarts, Ends}
-use Rattle.laws_third.specs.Laws.{DoneIsFive, EndsAtVoltage, StaysAtVoltage}
+use Rattle.laws_third.specs.Stages.{WasDone, CycleStarts}
+use Rattle.laws_third.specs.Laws.{DoneIsFive, EndsInFive, StaysAtVoltage}
 use Rattle.laws_third.proofs.Bands.{only-band}
 use Rattle.laws_third.proofs.Allowing.{may-means}
 use Rattle.laws_third.proofs.Cycling.{done-means}
@@ -31,10 +31,8 @@ full r at below =
     let share = highest-share (profileOf r) (settingOf 8 r % 4) in
     omega (arith, share-below (chargeTo (below .0) r) (sampleOf r .pack) _ share high, below .2)
 
-pub ends-at-voltage : EndsAtVoltage
-ends-at-voltage r a may at =
-    let ends : Ends r = record { mayEnd = may; full = full r at } in
-    (ends, done-is-five r a (inl ends) (may .allowed))
+pub ends-in-five : EndsInFive
+ends-in-five r a ends = done-is-five r a (inl ends) (ends .allowed)
 
 not-reset : (r : Run) → WasDone r → ¬ (wasReset r ≡ true)
 not-reset (powered p) was reset = was

@@ -19,7 +19,7 @@ use Rattle.laws_account.specs.States.{settingsAt, registersAt, stateBy}
 use Rattle.laws_account.proofs.Judging.{voltage-is, fault-is}
 use Rattle.laws_third.specs.Crossed.{PinFault}
 use Rattle.laws_third.specs.Banded.{chargeTo, BelowRecharge, Tapering}
-use Rattle.laws_third.specs.Laws.{TapersAbovePoint}
+use Rattle.laws_third.specs.Laws.{TapersAbovePoint, EndsAbovePoint}
 use Rattle.laws_third.proofs.Bands.{only-band, voltage-plain}
 use Rattle.laws_third.proofs.Crossings.{pins-mean}
 use Rattle.laws_third.proofs.Means.{false-means, not-means}
@@ -46,4 +46,7 @@ tapers-above-point r a sound tapers below =
     let near = subst (λ (b : Band). chargeTo b r ≤ sampleOf r .pack + 10) same (tapers .2) in
     let share = highest-share (profileOf r) (settingOf 8 r % 4) in
     let high = least r a sound (below .0) (only-band r (below .0) (below .1)) in
-    omega (arith, share-below-taper (chargeTo (below .0) r) (sampleOf r .pack) _ share (omega (arith, high)) near, below .2)
+    omega (arith, share-below-taper (chargeTo (below .0) r) (sampleOf r .pack) _ share (omega (arith, high, near)) near, below .2)
+
+pub ends-above-point : EndsAbovePoint
+ends-above-point r a ends = tapers-above-point r a (ends .allowed .permitted .pinned) (ends .charged .2)

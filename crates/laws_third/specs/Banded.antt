@@ -68,8 +68,8 @@ chargeTo b m = base m - cut b m
 abbrev pub Tapering : Run → Type 0
 Tapering m = ByBand (λ b. chargeTo b m ≤ sampleOf m .pack + 10) m
 
--- "VBAT is below 92.7, 94.1, 95.5, 97% .. by VRECHG 0-3", and 02, R-1: "The recharge point, both for ending and for restarting, is taken from the charge voltage after the band's cut.
--- Demand 3 reads so from now on." In thousandths
+-- "VBAT is below 92.7, 94.1, 95.5, 97% .. by VRECHG 0-3", and 02, R-1: "The recharge point .. is taken from the charge voltage after the band's cut. Demand 3 reads so from now on." In
+-- thousandths
 abbrev pub BelowRecharge : Run → Type 0
 BelowRecharge m = ByBand (λ b. sampleOf m .pack * 1000 < chargeTo b m * rechargeShareAt (profileOf m) (settingOf 8 m % 4)) m
 

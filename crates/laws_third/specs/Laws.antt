@@ -12,7 +12,7 @@ use Rattle.laws_account.specs.Refused.{Accepted, none, some, pastOf}
 use Rattle.laws_third.specs.Crossed.{PinFault}
 use Rattle.laws_third.specs.Banded.{Tapering, BelowRecharge, AtVoltage}
 use Rattle.laws_third.specs.Allowed.{Allowed}
-use Rattle.laws_third.specs.Stages.{WasDone, CycleStarts, StartedAt, timeSince, Reached, MayEnd, Ends, Done}
+use Rattle.laws_third.specs.Stages.{WasDone, CycleStarts, StartedAt, timeSince, Reached, Ends, Done}
 
 -- the present cycle started once, and what the account has of a stage is the sum from there to now: no time is lost or invented
 pub record Cycled (r : Run) : Type 0 where
@@ -44,17 +44,21 @@ DoneByPhases =
 abbrev pub DoneIsFive : Type 0
 DoneIsFive = (r : Run) → Accepted r → Done r → Allowed r → numberAt phaseAt r ≡ 5
 
--- 02, R-1, for the operators: with VBAT at or above the charge voltage whatever may end a charge ends it, in every band that charges
-abbrev pub EndsAtVoltage : Type 0
-EndsAtVoltage = (r : Run) → Accepted r → MayEnd r → AtVoltage r → Ends r × (numberAt phaseAt r ≡ 5)
+-- "Done begins, and 5 is reported": by the observation that ends the charge, in every band that charges
+abbrev pub EndsInFive : Type 0
+EndsInFive = (r : Run) → Accepted r → Ends r → numberAt phaseAt r ≡ 5
 
--- and no cycle that is done starts again there
+-- 02, R-1, for the operators: with VBAT at or above the charge voltage no cycle that is done starts again
 abbrev pub StaysAtVoltage : Type 0
 StaysAtVoltage = (r : Run) → Accepted r → WasDone r → Allowed r → AtVoltage r → (¬ CycleStarts r) × (numberAt phaseAt r ≡ 5)
 
 -- 02, R-2: "The pack test group can't build a taper sample below R-1's recharge point." After no run of accepted events is there one, unless a pin fault forbids the charge anyway
 abbrev pub TapersAbovePoint : Type 0
 TapersAbovePoint = (r : Run) → Accepted r → ¬ PinFault r → Tapering r → ¬ BelowRecharge r
+
+-- so the test that the rule for done has no longer would pass wherever a charge ends
+abbrev pub EndsAbovePoint : Type 0
+EndsAbovePoint = (r : Run) → Accepted r → Ends r → ¬ BelowRecharge r
 
 -- none of this is of runs that no list of events leaves: every run of accepted events is left by one
 abbrev pub EveryRunLeft : Type 0

@@ -66,8 +66,8 @@ abbrev pub TaperBefore : Run → Type 0
 TaperBefore (powered p) = ⊥
 TaperBefore (r ▸ e) = numberAt phaseAt r ≡ 4
 
--- "Done begins .. only on an observation: phase 4 held before it and judged after it, EN_TERM, IBAT < ITERM, no regulation,"
-pub record MayEnd (r : Run) : Type 0 where
+-- "Done begins .. only on an observation: phase 4 held before it and judged after it, EN_TERM, IBAT < ITERM, no regulation"; 02, R-2: "One test fewer", that of the recharge point
+pub record Ends (r : Run) : Type 0 where
   pub observed : wasObserved r ≡ true
   pub before : TaperBefore r
   -- judged after it: nothing that comes before 4 in the order
@@ -77,11 +77,6 @@ pub record MayEnd (r : Run) : Type 0 where
   pub enabled : settingOf 10 r ≡ 1
   pub weak : ltZ (sampleOf r .ibat) (pos (settingOf 4 r)) ≡ true
   pub unregulated : regulated r ≡ false
-
--- "VBAT not below the recharge point."
-pub record Ends (r : Run) : Type 0 where
-  pub mayEnd : MayEnd r
-  pub full : ¬ BelowRecharge r
 
 -- done: it begins, or it was and no cycle starts
 abbrev pub Done : Run → Type 0

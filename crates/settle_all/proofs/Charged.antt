@@ -1,4 +1,4 @@
--- At the charge voltage a charge ends, and one that is done stays done.
+-- Where the rule for done holds a charge ends; and at the charge voltage one that is done stays done.
 use mathlib.Core.Path.{_≡_, refl}
 use mathlib.Core.Bool.{Bool, true, false}
 use Rattle.settle_levels.proofs.Points.{full-at-voltage}
@@ -11,24 +11,24 @@ use Rattle.settle_phases.specs.declared.tests.Tests.{Tests}
 use Rattle.settle_permission.specs.Ending.{endingOf}
 use Rattle.settle_all.specs.Gather.{testsOf}
 use Rattle.settle_all.specs.Settle.{forcedOf, settledOf, settleOf}
-use Rattle.settle_all.specs.Theorems.{testedOf, Charged, ChargedEnds, ChargedStays}
+use Rattle.settle_all.specs.Theorems.{testedOf, TaperEnds, Charged, ChargedStays}
 
 -- the recharge point isn't below: EN_CHG, which a pin fault forces, is no part of the charge voltage
 above : (s : State) (observed : Bool) → Charged s → testedOf s observed .recharge ≡ false
 unfolding testsOf settleOf settledOf forcedOf chargeVoltageOf baseOf belowRecharge
 above s observed h = full-at-voltage (s .profile) (s .settings) (chargeVoltageOf (s .profile) (s .settings) (s .registers) _) (s .sample) h
 
-ends : (t : Tests) → t .recharge ≡ false → isTaper (judgedOf t) ≡ true → t .observed ≡ true → t .tapered ≡ true → t .ending ≡ true → phaseOf t ≡ Done
+ends : (t : Tests) → isTaper (judgedOf t) ≡ true → t .observed ≡ true → t .tapered ≡ true → t .ending ≡ true → phaseOf t ≡ Done
 unfolding phaseOf endsOf
-ends t full judged observed tapered ending = rw (judged, observed, tapered, ending, full)
+ends t judged observed tapered ending = rw (judged, observed, tapered, ending)
 
 stays : (t : Tests) → t .recharge ≡ false → t .done ≡ true → t .permitted ≡ true → t .fault ≡ false → t .suspended ≡ false → phaseOf t ≡ Done
 unfolding phaseOf endsOf judgedOf
 stays t full done permitted sound mild = rw (full, done, permitted, sound, mild)
 
-pub charged-ends : ChargedEnds
+pub taper-ends : TaperEnds
 unfolding settleOf settledOf forcedOf testsOf endingOf
-charged-ends s h held judged ending = ends (testedOf s true) (above s true h) judged refl held ending
+taper-ends s held judged ending = ends (testedOf s true) judged refl held ending
 
 pub charged-stays : ChargedStays
 unfolding settleOf settledOf forcedOf testsOf

@@ -1,5 +1,7 @@
 -- The laws of the crate.
+pub mod Above
 pub mod Alone
 pub mod Below
 pub mod Charged
+pub mod EndTested
 pub mod Once

@@ -21,6 +21,7 @@ use Rattle.settle_permission.specs.Limits.{reachedOf}
 use Rattle.settle_all.specs.Gather.{testsOf}
 use Rattle.settle_all.specs.Settle.{storedOf, forcedOf, settledOf, settleOf}
 use Rattle.settle_all.specs.Theorems.{SettlesOnce}
+use Rattle.settle_all.proofs.Above.{NoneBelow, none-below}
 
 and-again : (a b : Bool) → ((a && b) && b) ≡ (a && b)
 and-again true true = refl
@@ -37,7 +38,7 @@ tests-after : (s : State) (k : Latches) (b : Band) (o : Bool)
 unfolding testsOf settledOf afterOf cycleOf
 tests-after s k b o = simp (reached-cleared (s .profile) (s .cycle))
 
-module _ (s : State) (k : Latches) (b : Band) (o : Bool) where
+module _ (s : State) (k : Latches) (b : Band) (o : Bool) (above : NoneBelow (testsOf s k b o)) where
   abbrev t : Tests
   t = testsOf s k b o
 
@@ -51,7 +52,7 @@ module _ (s : State) (k : Latches) (b : Band) (o : Bool) where
   unfolding testsOf
   judged-again =
       same o (t .tapered) (t .ending) (s .cycle .trickle) (s .cycle .precharge) (s .cycle .fast) _ refl (t .permitted) stays (reachedOf (s .profile) (s .cycle)) (t .suspended)
-      (t .done) (t .recharge) (t .short) (t .low) (t .taper)
+      (t .done) (t .recharge) (t .short) (t .low) (t .taper) above
 
   kept : settledOf (settledOf s k b t) k b u ≡ settledOf s k b t
   unfolding settledOf
@@ -66,4 +67,5 @@ settles-once s o =
     let fault = faultOf (s .profile) (s .registers) in
     let settings = storedOf fault (s .settings) in
     let k = latchesOf (s .profile) settings (s .registers) (s .sample) (s .latches) in
-    simp (stored-again fault (s .settings), latches-rest (s .profile) settings (s .registers) (s .sample) (s .latches)) (settled-again (forcedOf s) k (bandOf (s .profile) (s .registers) (s .sample .ts)) o)
+    let band = bandOf (s .profile) (s .registers) (s .sample .ts) in
+    simp (stored-again fault (s .settings), latches-rest (s .profile) settings (s .registers) (s .sample) (s .latches)) (settled-again (forcedOf s) k band o (none-below (forcedOf s) (s .latches) band o))

@@ -2,6 +2,7 @@
 use Prim.Native.Nat.{_≤_}
 use mathlib.Core.Path.{_≡_}
 use mathlib.Core.Bool.{Bool, true, false}
+use mathlib.Core.Logic.{_≢_}
 use Rattle.settle_bands.specs.Thresholds.{bandOf}
 use Rattle.settle_levels.specs.Clamps.{faultOf}
 use Rattle.settle_levels.specs.Comparators.{latchesOf}
@@ -15,7 +16,8 @@ use Rattle.settle_phases.specs.declared.tests.Tests.{Tests}
 use Rattle.settle_permission.specs.Ending.{endingOf}
 use Rattle.settle_permission.specs.Limits.{reachedOf}
 use Rattle.settle_all.specs.Gather.{testsOf}
-use Rattle.settle_all.specs.Settle.{storedOf, forcedOf, settleOf}
+use Rattle.settle_all.specs.Settle.{storedOf, forcedOf, settleBy, settleOf}
+use Rattle.settle_all.specs.EndTested.{endTested, testsEndTested}
 
 -- 01: "Settling with neither a new event nor time changes nothing.", whatever asked for the first one
 abbrev pub SettlesOnce : Type 0
@@ -50,17 +52,23 @@ SettlesTo = (s : State) (observed : Bool) → Moved s observed
 abbrev pub BelowLimits : Type 0
 BelowLimits = (s : State) (observed : Bool) → charging (settleOf s observed .phase) ≡ true → reachedOf (s .profile) (settleOf s observed .cycle) ≡ false
 
+-- "Done begins, and 5 is reported, only on an observation: phase 4 held before it and judged after it, EN_TERM, IBAT < ITERM, no regulation": where that is so it does
+abbrev pub TaperEnds : Type 0
+TaperEnds =
+    (s : State) → isTaper (s .phase) ≡ true → isTaper (judgedOf (testedOf s true)) ≡ true → endingOf (s .settings) (s .sample) ≡ true
+    → settleOf s true .phase ≡ Done
+
+-- 02, R-2: "take the test out of the rule for done and show that no run's report changes". The rules with the test and without are two: some tests tell them apart. But no state has
+-- such tests, whatever it holds, so no settling does
+pub record TestDecidesNothing : Type 0 where
+  pub rules : (t : Tests) × (phaseOf (endTested t (t .recharge)) ≢ phaseOf t)
+  pub settles : (s : State) (observed : Bool) → settleBy testsEndTested s observed ≡ settleOf s observed
+
 -- 02, R-1: the recharge point "is taken from the charge voltage after the band's cut". VBAT at or above that voltage, in the band that this settling judges
 abbrev pub Charged : State → Type 0
 Charged s = chargeVoltageOf (s .profile) (s .settings) (s .registers) (bandOf (s .profile) (s .registers) (s .sample .ts)) .0 ≤ s .sample .pack
 
--- "for ending": there an observation ends the charge, "phase 4 held before it and judged after it, EN_TERM, IBAT < ITERM, no regulation"
-abbrev pub ChargedEnds : Type 0
-ChargedEnds =
-    (s : State) → Charged s → isTaper (s .phase) ≡ true → isTaper (judgedOf (testedOf s true)) ≡ true → endingOf (s .settings) (s .sample) ≡ true
-    → settleOf s true .phase ≡ Done
-
--- "and for restarting": there a charge that is done stays done, wherever phase 5 would hold
+-- there a charge that is done stays done, wherever phase 5 would hold
 abbrev pub ChargedStays : Type 0
 ChargedStays =
     (s : State) (observed : Bool) → Charged s → s .cycle .done ≡ true → testedOf s observed .permitted ≡ true → testedOf s observed .fault ≡ false

@@ -50,19 +50,26 @@ pinned false true false other e = absurd (true≢false e)
 pinned false true true other e = (refl, λ l. absurd (true≢false l))
 pinned false false lifted other e = (refl, λ l. refl)
 
-module _ (p : Profile) (s : Settings) (g : Registers) (k : PartsPass p s g) (sound : faultOf p g ≡ false) where
+module _ (p : Profile) (g : Registers) (sound : faultOf p g ≡ false) where
   pins : (eqb (g .cells) 0 ≡ false) × (g .vchgoverride ≡ false → eqb (p .vchg) 0 ≡ false)
   unfolding faultOf
   pins = pinned (eqb (g .cells) 0) (eqb (p .vchg) 0) (g .vchgoverride) (eqb (p .ichg) 0 && not (g .ichgoverride)) sound
 
+  pub some-cell : 1 ≤ g .cells
+  some-cell = nonzero (g .cells) (pins .0)
+
+  some-code : g .vchgoverride ≡ false → 1 ≤ p .vchg
+  some-code e = nonzero (p .vchg) (pins .1 e)
+
+module _ (p : Profile) (s : Settings) (g : Registers) (k : PartsPass p s g) (sound : faultOf p g ≡ false) where
   -- what a cell may be charged to
   each-least : (lifted : Bool) → g .vchgoverride ≡ lifted → 3500 ≤ pick lifted (record { 0 = p .ceiling }) (vchgOf p) .0
   each-least true e = let b = profile-bounds p (k .profile) in omega (arith, b .ceilingLeast)
-  each-least false e = least-pin p (nonzero (p .vchg) (pins .1 e)) (profile-bounds p (k .profile) .vchg)
+  each-least false e = least-pin p (some-code p g sound e) (profile-bounds p (k .profile) .vchg)
 
   clamp-least : 3500 ≤ packClampOf p g .0
   unfolding packClampOf inPack
-  clamp-least = let m = mul-le-mul (each-least (g .vchgoverride) refl) (nonzero (g .cells) (pins .0)) in omega arith
+  clamp-least = let m = mul-le-mul (each-least (g .vchgoverride) refl) (some-cell p g sound) in omega arith
 
   base-least : 2400 ≤ baseOf p s g .0
   unfolding baseOf

@@ -2,3 +2,4 @@
 pub mod Least
 pub mod Points
 pub mod Rest
+pub mod Shorts

@@ -22,8 +22,8 @@ chargeVoltageOf p s g b = lessOf (baseOf p s g) (inPack (cutOf p g b) (g .cells)
 unfoldable pub taperOf : PackMv → Sample → Bool
 taperOf charge x = within (packOf (x .pack)) charge 10
 
--- "VBAT is below 92.7, 94.1, 95.5, 97% .. by VRECHG 0-3": the recharge point, a share of the charge voltage. 02, R-1: "The recharge point, both for ending and for restarting, is
--- taken from the charge voltage after the band's cut."
+-- "VBAT is below 92.7, 94.1, 95.5, 97% .. by VRECHG 0-3": the recharge point, a share of the charge voltage. 02, R-1: "The recharge point .. is taken from the charge voltage after the
+-- band's cut."
 abbrev pub rechargeShares : List ℕ
 rechargeShares = 927 ∷ 941 ∷ 955 ∷ 970 ∷ []
 

@@ -1,7 +1,7 @@
--- Judged again with nothing moved, the phase and the cycle stay: by cases on what was tested.
+-- Judged again with nothing moved, the phase and the cycle stay, where no sample tapers below the recharge point: by cases on what was tested.
 use Prim.Native.Nat.{ℕ}
 use mathlib.Core.Path.{_≡_, refl}
-use mathlib.Core.Bool.{Bool, true, false, _||_, _&&_}
+use mathlib.Core.Bool.{Bool, true, false, not, _||_, _&&_, true≢false}
 use Rattle.base.specs.Pick.{pick}
 use Rattle.state_parts.specs.declared.cycle.Cycle.{Cycle}
 use Rattle.settle_phases.specs.After.{afterOf}
@@ -34,21 +34,24 @@ module _ (observed tapered ending : Bool) (trickle precharge fast : ℕ) where
       let u = afterOf t (stays || pick (clearsOf t) false limit) in
       (phaseOf u ≡ phaseOf t) × (cycleOf u (cycleOf t (cycle (t .done))) ≡ cycleOf t (cycle (t .done)))
 
-  pub same : (ready : Bool) → (observed && tapered && ending) ≡ ready → (p a r s d w sh lo ta : Bool) → Same (tests p (a || r) s d w sh lo ta) a r
+  -- short has ended, taper and below the recharge point: not all three
+  abbrev Apart : Bool → Bool → Bool → Type 0
+  Apart short taper recharge = (not short && (taper && recharge)) ≡ false
+
+  pub same : (ready : Bool) → (observed && tapered && ending) ≡ ready → (p a r s d w sh lo ta : Bool) → Apart sh ta w → Same (tests p (a || r) s d w sh lo ta) a r
   unfolding afterOf cycleOf judgedOf restartsOf clearsOf endsOf phaseOf
-  same ready e false a r s d w sh lo ta = (refl, refl)
-  same ready e true true r s d w sh lo ta = (refl, refl)
-  same ready e true false true s d w sh lo ta = (refl, refl)
-  same ready e true false false true d w sh lo ta = (refl, refl)
-  same ready e true false false false true false sh lo ta = (refl, refl)
-  same ready e true false false false true true true lo ta = (refl, refl)
-  same ready e true false false false true true false true ta = (refl, refl)
-  same ready e true false false false true true false false false = (refl, refl)
-  same true e true false false false true true false false true = (simp e, simp e)
-  same false e true false false false true true false false true = (simp e, simp e)
-  same ready e true false false false false w true lo ta = (refl, refl)
-  same ready e true false false false false w false true ta = (refl, refl)
-  same ready e true false false false false w false false false = (refl, refl)
-  same true e true false false false false true false false true = (simp e, simp e)
-  same true e true false false false false false false false true = (simp e, simp e)
-  same false e true false false false false w false false true = (simp e, simp e)
+  same ready e false a r s d w sh lo ta h = (refl, refl)
+  same ready e true true r s d w sh lo ta h = (refl, refl)
+  same ready e true false true s d w sh lo ta h = (refl, refl)
+  same ready e true false false true d w sh lo ta h = (refl, refl)
+  same ready e true false false false true false sh lo ta h = (refl, refl)
+  same ready e true false false false true true true lo ta h = (refl, refl)
+  same ready e true false false false true true false true ta h = (refl, refl)
+  same ready e true false false false true true false false false h = (refl, refl)
+  same ready e true false false false true true false false true h = absurd (true≢false h)
+  same ready e true false false false false w true lo ta h = (refl, refl)
+  same ready e true false false false false w false true ta h = (refl, refl)
+  same ready e true false false false false w false false false h = (refl, refl)
+  same ready e true false false false false true false false true h = absurd (true≢false h)
+  same true e true false false false false false false false true h = (simp e, simp e)
+  same false e true false false false false false false false true h = (simp e, simp e)

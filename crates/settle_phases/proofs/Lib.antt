@@ -1,3 +1,4 @@
 -- The laws of the crate.
 pub mod Again
 pub mod Clean
+pub mod Restarts

@@ -2,3 +2,4 @@
 pub mod Order
 pub mod Cycles
 pub mod After
+pub mod Theorems

@@ -32,9 +32,10 @@ restartsOf t = t .permitted && not (t .fault) && not (t .suspended) && t .done &
 unfoldable pub clearsOf : Tests → Bool
 clearsOf t = not (t .permitted) || restartsOf t
 
--- "Done begins, and 5 is reported, only on an observation: phase 4 held before it and judged after it, EN_TERM, IBAT < ITERM, no regulation, VBAT not below the recharge point."
+-- "Done begins, and 5 is reported, only on an observation: phase 4 held before it and judged after it, EN_TERM, IBAT < ITERM, no regulation". 02, R-2: "One test fewer at the end of
+-- charge": no word of the recharge point, which no such sample is below
 unfoldable pub endsOf : Tests → Bool
-endsOf t = isTaper (judgedOf t) && (t .observed && t .tapered && t .ending) && not (t .recharge)
+endsOf t = isTaper (judgedOf t) && (t .observed && t .tapered && t .ending)
 
 unfoldable pub phaseOf : Tests → Phase
 phaseOf t = pick (endsOf t) Done (judgedOf t)

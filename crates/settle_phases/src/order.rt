@@ -88,10 +88,9 @@ pub(crate) fn ends(t: Tests) -> bool
     ensures { λ r. ⌜ r ≡ endsOf t ⌝ }
 {
     let ready = t.observed & t.tapered & t.ending;
-    let recharge = t.recharge;
     let phase = judged(t);
     let tapers = is_taper(phase);
-    tapers & ready & !recharge
+    tapers & ready
 }
 
 fn choose_phase(test: bool, first: Phase, second: Phase) -> Phase
