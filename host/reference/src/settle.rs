@@ -138,8 +138,8 @@ fn is_battery_over(state: &State) -> bool {
     !vbat(state).is_below_share(base_voltage(state), point)
 }
 
-/// "The recharge point, both for ending and for restarting, is taken from
-/// the charge voltage after the band's cut." (R-1)
+/// "The recharge point .. is taken from the charge voltage after the band's
+/// cut." (R-1)
 fn below_recharge(state: &State) -> bool {
     let share = RECHARGE[state.settings[Setting::Vrechg] as usize];
     vbat(state).is_below_share(charge_voltage(state), share)
@@ -200,14 +200,13 @@ fn suspended(state: &State) -> bool {
 }
 
 /// "Done begins, and 5 is reported, only on an observation: phase 4 held
-/// before it and judged after it, EN_TERM, IBAT < ITERM, no regulation, VBAT
-/// not below the recharge point." IBAT is signed; the regulation is the new
-/// sample's.
+/// before it and judged after it, EN_TERM, IBAT < ITERM, no regulation". IBAT
+/// is signed; the regulation is the new sample's. "One test fewer at the end
+/// of charge" (R-2): the recharge point is the restart's alone.
 fn done_begins(state: &State, cause: Cause) -> bool {
     cause == Cause::Observation { held: phase::TAPER }
         && state.phase == phase::TAPER
         && state.settings.is_on(Setting::EnTerm)
         && i64::from(state.sample.ibat) < i64::from(state.settings[Setting::Iterm])
         && !state.sample.regulates()
-        && !below_recharge(state)
 }
