@@ -1,8 +1,6 @@
 -- 02, R-2: the step with the test is this product's step.
-use mathlib.Core.Path.{_≡_, refl, ap}
+use mathlib.Core.Path.{_≡_, ap}
 use Rattle.state_parts.specs.declared.state.State.{State}
-use Rattle.settle_all.specs.Settle.{settleBy, settleOf}
-use Rattle.settle_all.specs.EndTested.{testsEndTested}
 use Rattle.settle_all.proofs.EndTested.{test-decides-nothing}
 use Rattle.report_state.specs.Report.{reportOf}
 use Rattle.step_turns.specs.Turns.{turnOf}

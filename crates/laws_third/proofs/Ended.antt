@@ -5,7 +5,7 @@ use mathlib.Core.Path.{_≡_, refl, sym, ap, _∙_, subst}
 use mathlib.Core.Bool.{Bool, true, false, not, _&&_, _||_, and-false, false≢true}
 use lib.Dec.{leb, ltb, eqb}
 use Rattle.base.specs.Pick.{pick}
-use Rattle.base.proofs.Tests.{and-iff, leb-iff, eqb-iff}
+use Rattle.base.proofs.Tests.{and-iff, leb-iff, eqb-iff, neither}
 use Rattle.state_parts.specs.Numbers.{phaseNumber}
 use Rattle.state_parts.specs.declared.phase.Phase.{Phase}
 use Rattle.state_parts.specs.declared.phase.Phase.the-variants.{Idle, Trickle, Precharge, Fast, Taper, Done, Suspended, Fault}
@@ -39,10 +39,6 @@ five : (p g s d sh lo ta : Bool) → eqb (phaseNumber (firstPhase p g s d sh lo 
 five p false s d sh lo ta h = refl
 five true true s d sh lo ta h = absurd (false≢true h)
 five false true s d sh lo ta h = absurd (false≢true h)
-
-or-none : (a b : Bool) → (a || b) ≡ false → b ≡ false
-or-none true b h = absurd (false≢true (sym h))
-or-none false b h = h
 
 -- no stage is held in 5, 6 and 7
 unheld : (s : Stage) (q : Phase) → leb 5 (phaseNumber q) ≡ true → heldIn s q ≡ false
@@ -130,9 +126,9 @@ module _ (r : Run) (e : Later) where
   fault-none : eqb (numberAt phaseAt here) 5 ≡ true → anyFound phaseAt phase-keeps-rule here ≡ false
   unfolding phaseBy fault
   fault-none h =
-      or-none (faulty here) (anyFound phaseAt phase-keeps-rule here)
+      neither (faulty here) (anyFound phaseAt phase-keeps-rule here)
       (five (permitted here) (fault phaseAt here) (suspended here) (wasDone phaseAt here && not (rechargeDue here) || chargeEnds phaseAt here) (short here) (low here) (tapering here)
-      (ap (λ q. eqb (phaseNumber q) 5) (sym (phase-keeps-rule .rule here)) ∙ h))
+      (ap (λ q. eqb (phaseNumber q) 5) (sym (phase-keeps-rule .rule here)) ∙ h)) .1
 
   limit-none : anyFound phaseAt phase-keeps-rule here ≡ false → limitReached phaseAt here ≡ false
   limit-none h = sym (limit-next phaseAt phase-keeps-rule r e) ∙ ap (λ b. not (cleared phaseAt phase-keeps-rule r e) && b) h ∙ and-false (not (cleared phaseAt phase-keeps-rule r e))

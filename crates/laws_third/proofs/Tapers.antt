@@ -7,7 +7,6 @@ use Rattle.base.specs.Volts.{millivoltsOf}
 use Rattle.state_parts.specs.declared.band.Band.{Band}
 use Rattle.state_valid.specs.Holds.{PartsPass}
 use Rattle.settle_levels.specs.Clamps.{faultOf}
-use Rattle.settle_levels.specs.Voltage.{chargeVoltageOf}
 use Rattle.settle_levels.proofs.Least.{least-voltage}
 use Rattle.settle_levels.proofs.Points.{highest-share, share-below-taper}
 use Rattle.laws_account.specs.History.{Run}
@@ -18,7 +17,7 @@ use Rattle.laws_account.specs.Refused.{Accepted}
 use Rattle.laws_account.specs.States.{settingsAt, registersAt, stateBy}
 use Rattle.laws_account.proofs.Judging.{voltage-is, fault-is}
 use Rattle.laws_third.specs.Crossed.{PinFault}
-use Rattle.laws_third.specs.Banded.{chargeTo, BelowRecharge, Tapering}
+use Rattle.laws_third.specs.Banded.{chargeTo}
 use Rattle.laws_third.specs.Laws.{TapersAbovePoint, EndsAbovePoint}
 use Rattle.laws_third.proofs.Bands.{only-band, voltage-plain}
 use Rattle.laws_third.proofs.Crossings.{pins-mean}

@@ -1,5 +1,5 @@
 -- No state is tested as one that tapers below the recharge point, once short has ended.
-use mathlib.Core.Path.{_≡_, refl, sym, _∙_}
+use mathlib.Core.Path.{_≡_, refl}
 use mathlib.Core.Bool.{Bool, true, false, not, _&&_}
 use Rattle.settle_levels.proofs.Shorts.{none-without-short}
 use Rattle.settle_levels.specs.Comparators.{latchesOf}

@@ -1,8 +1,9 @@
 -- No limit is reached in the stage that a settling comes to.
 use mathlib.Core.Path.{_≡_, refl, _∙_}
-use mathlib.Core.Bool.{Bool, true, false, _||_, true≢false}
+use mathlib.Core.Bool.{Bool, true, false, _||_}
 use Rattle.settle_bands.specs.Thresholds.{bandOf}
 use Rattle.base.specs.Pick.{pick}
+use Rattle.base.proofs.Tests.{neither}
 use Rattle.settle_levels.specs.Comparators.{latchesOf}
 use Rattle.state_parts.specs.Stages.{charging}
 use Rattle.state_parts.specs.declared.band.Band.{Band}
@@ -19,10 +20,6 @@ use Rattle.settle_all.specs.Gather.{testsOf}
 use Rattle.settle_all.specs.Settle.{forcedOf, settledOf, settleOf}
 use Rattle.settle_all.specs.Theorems.{BelowLimits}
 
-or-right : (a b : Bool) → (a || b) ≡ false → b ≡ false
-or-right true b e = absurd (true≢false e)
-or-right false b e = e
-
 pick-same : (test b : Bool) → b ≡ false → pick test false b ≡ false
 pick-same true b e = refl
 pick-same false b e = e
@@ -33,7 +30,7 @@ module _ (s : State) (k : Latches) (b : Band) (o : Bool) where
 
   unreached : t .fault ≡ false → reachedOf (s .profile) (s .cycle) ≡ false
   unfolding testsOf
-  unreached e = or-right (shutdownOf (s .sample) || k .packover) _ e
+  unreached e = neither (shutdownOf (s .sample) || k .packover) _ e .1
 
   below : charging (phaseOf t) ≡ true → reachedOf (s .profile) (cycleOf t (s .cycle)) ≡ false
   unfolding cycleOf

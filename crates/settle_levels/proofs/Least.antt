@@ -1,11 +1,11 @@
 -- The least charge voltage, by the bounds of the tables: of VREG, of the pins and the ceiling, of the cuts and of the cell count.
-use Prim.Native.Nat.{ℕ, zero, suc, _*_, _≤_}
+use Prim.Native.Nat.{_≤_}
 use mathlib.Core.Path.{_≡_, refl, ap}
 use mathlib.Core.Bool.{Bool, true, false, not, _&&_, _||_, true≢false}
 use native.Mathlib.Nat.{mul-le-mul}
 use native.Mathlib.Omega.{arith}
 use lib.Dec.{leb, eqb}
-use borrow.Author.Tests.{leb-false}
+use borrow.Author.Tests.{leb-false, eqb-false}
 use Rattle.base.specs.Pick.{pick}
 use Rattle.base.specs.Units.{inPack}
 use Rattle.base.specs.Volts.{packOf}
@@ -39,10 +39,6 @@ cut-most p g b = by (isWarm b)
     by true = highest-cut p (fieldOf jeitaVset g)
     by false = omega arith
 
-nonzero : (n : ℕ) → eqb n 0 ≡ false → 1 ≤ n
-nonzero zero e = absurd (true≢false e)
-nonzero (suc n) e = omega arith
-
 -- without a pin fault there is a cell, and a vchg code or its override
 pinned : (none unset lifted other : Bool) → ((none || (unset && not lifted)) || other) ≡ false → (none ≡ false) × (lifted ≡ false → unset ≡ false)
 pinned true unset lifted other e = absurd (true≢false e)
@@ -56,10 +52,10 @@ module _ (p : Profile) (g : Registers) (sound : faultOf p g ≡ false) where
   pins = pinned (eqb (g .cells) 0) (eqb (p .vchg) 0) (g .vchgoverride) (eqb (p .ichg) 0 && not (g .ichgoverride)) sound
 
   pub some-cell : 1 ≤ g .cells
-  some-cell = nonzero (g .cells) (pins .0)
+  some-cell = omega (arith, eqb-false (g .cells) 0 (pins .0))
 
   some-code : g .vchgoverride ≡ false → 1 ≤ p .vchg
-  some-code e = nonzero (p .vchg) (pins .1 e)
+  some-code e = omega (arith, eqb-false (p .vchg) 0 (pins .1 e))
 
 module _ (p : Profile) (s : Settings) (g : Registers) (k : PartsPass p s g) (sound : faultOf p g ≡ false) where
   -- what a cell may be charged to

@@ -1,13 +1,14 @@
 -- Where short has ended there is a cell, and VBAT is far above what a taper below the recharge point would need.
-use Prim.Native.Nat.{_≤_, _<_}
-use mathlib.Core.Path.{_≡_, refl}
-use mathlib.Core.Bool.{Bool, true, false, _&&_, _||_, true≢false}
+use Prim.Native.Nat.{_≤_}
+use mathlib.Core.Path.{_≡_}
+use mathlib.Core.Bool.{Bool, true, false}
 use native.Mathlib.Nat.{mul-le-mul}
 use native.Mathlib.Omega.{arith}
 use lib.Dec.{leb}
 use borrow.Author.Tests.{ltb-false}
 use Rattle.base.specs.Pick.{pick}
 use Rattle.base.specs.Units.{inPack}
+use Rattle.base.proofs.Tests.{neither}
 use Rattle.base.specs.declared.units.CellMv.{CellMv}
 use Rattle.state_parts.specs.declared.latches.Latches.{Latches}
 use Rattle.state_parts.specs.declared.profile.Profile.{Profile}
@@ -20,10 +21,6 @@ use Rattle.settle_levels.specs.Theorems.{NoneWithoutShort}
 use Rattle.settle_levels.specs.Voltage.{chargeVoltageOf}
 use Rattle.settle_levels.proofs.Least.{some-cell}
 use Rattle.settle_levels.proofs.Points.{taper-figure}
-
-neither : (a b : Bool) → (a || b) ≡ false → (a ≡ false) × (b ≡ false)
-neither true b e = absurd (true≢false e)
-neither false b e = (refl, e)
 
 returns-least : (p : Profile) (g : Registers) → 1850 ≤ shortReturns p g .0
 returns-least p g = by (leb (g .cells) 2)

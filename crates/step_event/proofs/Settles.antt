@@ -1,11 +1,12 @@
 -- Settling a state whose parts hold what they may, whichever stage is held, gives one that holds what it may.
 use Prim.Native.Nat.{ℕ, zero, suc, _+_, _*_, _<_}
 use mathlib.Core.Path.{_≡_, refl, ap, _∙_}
-use mathlib.Core.Bool.{Bool, true, false, _||_, true≢false, and-true, and-false}
+use mathlib.Core.Bool.{Bool, true, false, _||_, and-true, and-false}
 use native.Mathlib.Omega.{arith}
 use lib.Dec.{leb, eqb}
 use borrow.Author.Tests.{lt-ltb, le-leb, leb-false, ne-eqb}
 use Rattle.base.specs.Pick.{pick}
+use Rattle.base.proofs.Tests.{neither}
 use Rattle.state_parts.specs.Edges.{allFlags}
 use Rattle.state_parts.specs.declared.cycle.Cycle.{Cycle}
 use Rattle.state_parts.specs.declared.phase.Phase.{Phase}
@@ -110,10 +111,6 @@ held-stage (suc n) time true e r =
     let some = ne-eqb (suc n) 0 (λ z. omega arith) in
     let below = leb-false (suc n * 2000) time (simp some at r) in
     simp (some, le-leb 1 (suc n) (omega arith), lt-ltb time (suc n * 2000 + 7200000) (omega arith), lt-ltb time (suc n * 2000) below)
-
-neither : (a b : Bool) → (a || b) ≡ false → (a ≡ false) × (b ≡ false)
-neither true b e = absurd (true≢false e)
-neither false b e = (refl, e)
 
 module _ (y : Cycle) (p : Profile) (loosely : cycleOk y p Idle ≡ true) where
   -- where no limit is reached any stage may be held
