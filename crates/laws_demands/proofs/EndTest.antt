@@ -1,6 +1,7 @@
 -- 02, R-2: the step with the test is this product's step.
-use mathlib.Core.Path.{_≡_, ap}
+use mathlib.Core.Path.{_≡_, refl, ap}
 use Rattle.state_parts.specs.declared.state.State.{State}
+use Rattle.settle_all.specs.Settle.{settleOf}
 use Rattle.settle_all.proofs.EndTested.{test-decides-nothing}
 use Rattle.report_state.specs.Report.{reportOf}
 use Rattle.step_turns.specs.Turns.{turnOf}
@@ -8,7 +9,11 @@ use Rattle.step_kinds.specs.Finish.{finishBy, finishOf}
 use Rattle.step_event.specs.Steps.{endedBy, changeOf, turnedBy, stepOf}
 use Rattle.laws_demands.specs.Product.{Step}
 use Rattle.laws_demands.specs.Printed.{linesBy, printedBy}
-use Rattle.laws_demands.specs.EndTest.{stepEndTested, outcomesBy, NothingChanges}
+use Rattle.laws_demands.specs.EndTest.{StepByOwnTests, stepEndTested, outcomesBy, NothingChanges}
+
+pub step-by-own-tests : StepByOwnTests
+unfolding stepOf turnedBy finishOf settleOf
+step-by-own-tests m e = refl
 
 same-step : stepEndTested ≡ stepOf
 unfolding stepEndTested stepOf turnedBy finishOf

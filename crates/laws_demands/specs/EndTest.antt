@@ -18,9 +18,12 @@ use Rattle.laws_format.specs.Readers.{Reader}
 use Rattle.laws_demands.specs.Product.{Step}
 use Rattle.laws_demands.specs.Printed.{linesBy, printedBy}
 
--- this product's step, but that it settles by other tests
+-- this product's step, but that it settles by other tests; by its own it is the step itself
 abbrev pub stepBy : Tester → Step
 stepBy tests m e = endedBy (finishBy (settleBy tests)) m (changeOf m (turnOf e))
+
+abbrev pub StepByOwnTests : Type 0
+StepByOwnTests = (m : Model) (e : Event) → stepBy testsOf m e ≡ stepOf m e
 
 -- "VBAT not below the recharge point" asked for the end of a charge, as before
 unfoldable pub stepEndTested : Step

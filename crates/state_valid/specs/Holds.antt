@@ -61,7 +61,7 @@ stateOk s =
     profileOk (s .profile) && settingsOk (s .profile) (s .settings) && registersOk (s .profile) (s .registers) && cycleOk (s .cycle) (s .profile) (s .phase)
     && watchdogOk (s .watchdog) (s .profile) && sampleOk (s .sample) && leb (s .flags) allFlags
 
--- what the voltages go by holds what it may, whatever else the state holds: what an observation settles may hold a stage's time past its limit
+-- what voltages go by: profile, settings and registers, each of which holds what it may, whatever else is held
 pub record PartsPass (p : Profile) (s : Settings) (g : Registers) : Type 0 where
   pub profile : profileOk p ≡ true
   pub settings : settingsOk p s ≡ true
