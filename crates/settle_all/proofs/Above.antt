@@ -6,12 +6,8 @@ use Rattle.settle_levels.specs.Comparators.{latchesOf}
 use Rattle.state_parts.specs.declared.band.Band.{Band}
 use Rattle.state_parts.specs.declared.latches.Latches.{Latches}
 use Rattle.state_parts.specs.declared.state.State.{State}
-use Rattle.settle_phases.specs.declared.tests.Tests.{Tests}
+use Rattle.settle_phases.proofs.Again.{NoneBelow}
 use Rattle.settle_all.specs.Gather.{testsOf}
-
--- short has ended, taper and below the recharge point: not all three
-abbrev pub NoneBelow : Tests → Type 0
-NoneBelow t = (not (t .short) && (t .taper && t .recharge)) ≡ false
 
 not-all : (short taper recharge : Bool) → (short ≡ false → taper ≡ true → recharge ≡ false) → (not short && (taper && recharge)) ≡ false
 not-all true taper recharge h = refl

@@ -6,6 +6,7 @@ use Rattle.settle_levels.specs.Comparators.{latchesOf}
 use Rattle.state_parts.specs.declared.band.Band.{Band}
 use Rattle.state_parts.specs.declared.latches.Latches.{Latches}
 use Rattle.state_parts.specs.declared.state.State.{State}
+use Rattle.settle_phases.proofs.Again.{NoneBelow}
 use Rattle.settle_phases.specs.Cycles.{cycleOf}
 use Rattle.settle_phases.specs.Order.{isTaper, firstPhase, judgedOf, restartsOf, clearsOf, endsOf, phaseOf}
 use Rattle.settle_phases.specs.declared.tests.Tests.{Tests}
@@ -13,7 +14,7 @@ use Rattle.settle_all.specs.Gather.{testsOf}
 use Rattle.settle_all.specs.Settle.{forcedOf, settledOf, settleOf}
 use Rattle.settle_all.specs.EndTested.{endTested}
 use Rattle.settle_all.specs.Theorems.{TestDecidesNothing}
-use Rattle.settle_all.proofs.Above.{NoneBelow, none-below}
+use Rattle.settle_all.proofs.Above.{none-below}
 
 -- where phase 4 is judged short has ended, and taper holds
 judged-alike : (p f s d sh lo ta below ready ending : Bool) → (not sh && (ta && below)) ≡ false

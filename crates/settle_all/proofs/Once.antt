@@ -10,7 +10,7 @@ use Rattle.state_parts.specs.declared.band.Band.{Band}
 use Rattle.state_parts.specs.declared.latches.Latches.{Latches}
 use Rattle.state_parts.specs.declared.settings.Settings.{Settings}
 use Rattle.state_parts.specs.declared.state.State.{State}
-use Rattle.settle_phases.proofs.Again.{same}
+use Rattle.settle_phases.proofs.Again.{NoneBelow, same}
 use Rattle.settle_phases.specs.After.{afterOf}
 use Rattle.settle_phases.specs.Cycles.{cycleOf}
 use Rattle.settle_phases.specs.Order.{clearsOf, phaseOf}
@@ -21,7 +21,7 @@ use Rattle.settle_permission.specs.Limits.{reachedOf}
 use Rattle.settle_all.specs.Gather.{testsOf}
 use Rattle.settle_all.specs.Settle.{storedOf, forcedOf, settledOf, settleOf}
 use Rattle.settle_all.specs.Theorems.{SettlesOnce}
-use Rattle.settle_all.proofs.Above.{NoneBelow, none-below}
+use Rattle.settle_all.proofs.Above.{none-below}
 
 and-again : (a b : Bool) → ((a && b) && b) ≡ (a && b)
 and-again true true = refl

@@ -9,6 +9,10 @@ use Rattle.settle_phases.specs.Cycles.{cycleOf}
 use Rattle.settle_phases.specs.Order.{judgedOf, restartsOf, clearsOf, endsOf, phaseOf}
 use Rattle.settle_phases.specs.declared.tests.Tests.{Tests}
 
+-- short has ended, taper and below the recharge point: not all three
+abbrev pub NoneBelow : Tests → Type 0
+NoneBelow t = (not (t .short) && (t .taper && t .recharge)) ≡ false
+
 module _ (observed tapered ending : Bool) (trickle precharge fast : ℕ) where
   abbrev tests : Bool → Bool → Bool → Bool → Bool → Bool → Bool → Bool → Tests
   tests permitted fault suspended done recharge short low taper = record {
@@ -34,11 +38,7 @@ module _ (observed tapered ending : Bool) (trickle precharge fast : ℕ) where
       let u = afterOf t (stays || pick (clearsOf t) false limit) in
       (phaseOf u ≡ phaseOf t) × (cycleOf u (cycleOf t (cycle (t .done))) ≡ cycleOf t (cycle (t .done)))
 
-  -- short has ended, taper and below the recharge point: not all three
-  abbrev Apart : Bool → Bool → Bool → Type 0
-  Apart short taper recharge = (not short && (taper && recharge)) ≡ false
-
-  pub same : (ready : Bool) → (observed && tapered && ending) ≡ ready → (p a r s d w sh lo ta : Bool) → Apart sh ta w → Same (tests p (a || r) s d w sh lo ta) a r
+  pub same : (ready : Bool) → (observed && tapered && ending) ≡ ready → (p a r s d w sh lo ta : Bool) → NoneBelow (tests p (a || r) s d w sh lo ta) → Same (tests p (a || r) s d w sh lo ta) a r
   unfolding afterOf cycleOf judgedOf restartsOf clearsOf endsOf phaseOf
   same ready e false a r s d w sh lo ta h = (refl, refl)
   same ready e true true r s d w sh lo ta h = (refl, refl)
