@@ -1,11 +1,11 @@
 -- At power-on, where no pin has a fault, a pack of no volts is below every point.
-use Prim.Native.Nat.{ℕ, zero, suc, _*_, _<_, _≤_}
+use Prim.Native.Nat.{ℕ, _*_, _<_, _≤_}
 use native.Mathlib.Omega.{arith}
 use native.Mathlib.Nat.{mul-pos}
 use mathlib.Core.Path.{_≡_, refl}
 use mathlib.Core.Bool.{Bool, true, false, _&&_, _||_, true≢false}
 use lib.Dec.{leb, eqb}
-use borrow.Author.Tests.{lt-ltb}
+use borrow.Author.Tests.{lt-ltb, eqb-false}
 use Rattle.base.specs.Pick.{pick}
 use Rattle.base.specs.Units.{inPack, below, belowShare}
 use Rattle.base.specs.Volts.{packOf}
@@ -20,10 +20,6 @@ use Rattle.laws_account.specs.History.{powered}
 use Rattle.laws_account.specs.Held.{profileOf, sampleOf, overridden, cellsOf}
 use Rattle.laws_account.specs.Valued.{pinFault, startValue, settingOf}
 use Rattle.laws_account.specs.Judged.{vbat, packClamp, baseAt, cellPoint}
-
-nonzero : (n : ℕ) → eqb n 0 ≡ false → 0 < n
-nonzero zero h = absurd (true≢false h)
-nonzero (suc n) h = omega arith
 
 pos-pick : {A : Type 0} (f : A → ℕ) (t : Bool) (a b : A) → 0 < f a → 0 < f b → 0 < f (pick t a b)
 pos-pick f true a b h k = h
@@ -52,10 +48,10 @@ module _ (p : Profile) (ok : profileOk p ≡ true) (sound : pinFault (powered p)
   pins = clear-pins (eqb (p .cell) 0) (eqb (p .vchg) 0) (eqb (p .ichg) 0) sound
 
   cells-pos : 0 < p .cell
-  cells-pos = nonzero (p .cell) (pins .0)
+  cells-pos = omega (arith, eqb-false (p .cell) 0 (pins .0))
 
   vchg-pos : 0 < vchgOf p .0
-  vchg-pos = pos-vchg p (vchg-max p ok) (nonzero (p .vchg) (pins .1))
+  vchg-pos = pos-vchg p (vchg-max p ok) (omega (arith, eqb-false (p .vchg) 0 (pins .1)))
 
   base-pos : 0 < baseAt (powered p) .0
   unfolding baseAt settingOf startValue packClamp overridden cellsOf profileOf

@@ -39,6 +39,11 @@ module _ (t : Tests) (above : NoneBelow t) where
   unfolding settledOf cycleOf phaseOf judgedOf clearsOf restartsOf
   settled-alike s k b = rw ends-alike
 
+regrouped : (a b c d : Bool) → (a && (b && (c && d))) ≡ ((a && (b && c)) && d)
+regrouped true true c d = refl
+regrouped true false c d = refl
+regrouped false b c d = refl
+
 -- tests that no state has
 abbrev unmet : Tests
 unmet = record {
@@ -58,6 +63,7 @@ unmet = record {
 pub test-decides-nothing : TestDecidesNothing
 unfolding settleOf phaseOf endsOf judgedOf
 test-decides-nothing = record {
+  stood = λ t. regrouped (isTaper (judgedOf t)) (t .observed && t .tapered) (t .ending) (not (t .recharge));
   rules = (unmet, λ e. true≢false (ap isTaper e));
   settles = λ s observed.
       let f = forcedOf s in

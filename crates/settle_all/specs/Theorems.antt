@@ -1,7 +1,7 @@
 -- What is proved of every settling, of every state.
 use Prim.Native.Nat.{_≤_}
 use mathlib.Core.Path.{_≡_}
-use mathlib.Core.Bool.{Bool, true, false}
+use mathlib.Core.Bool.{Bool, true, false, not, _&&_}
 use mathlib.Core.Logic.{_≢_}
 use Rattle.settle_bands.specs.Thresholds.{bandOf}
 use Rattle.settle_levels.specs.Clamps.{faultOf}
@@ -11,7 +11,7 @@ use Rattle.state_parts.specs.Stages.{charging}
 use Rattle.state_parts.specs.declared.phase.Phase.the-variants.{Done}
 use Rattle.state_parts.specs.declared.state.State.{State}
 use Rattle.settle_phases.specs.Cycles.{cycleOf}
-use Rattle.settle_phases.specs.Order.{isTaper, judgedOf, phaseOf}
+use Rattle.settle_phases.specs.Order.{isTaper, judgedOf, endsOf, phaseOf}
 use Rattle.settle_phases.specs.declared.tests.Tests.{Tests}
 use Rattle.settle_permission.specs.Ending.{endingOf}
 use Rattle.settle_permission.specs.Limits.{reachedOf}
@@ -58,10 +58,13 @@ TaperEnds =
     (s : State) → isTaper (s .phase) ≡ true → isTaper (judgedOf (testedOf s true)) ≡ true → endingOf (s .settings) (s .sample) ≡ true
     → settleOf s true .phase ≡ Done
 
--- 02, R-2: "take the test out of the rule for done and show that no run's report changes". The rules with the test and without are two: some tests tell them apart. But no state has
--- such tests, whatever it holds, so no settling does
+-- 02, R-2: "take the test out of the rule for done and show that no run's report changes"
 pub record TestDecidesNothing : Type 0 where
+  -- the rule that is kept is the one that stood: ".., EN_TERM, IBAT < ITERM, no regulation, VBAT not below the recharge point."
+  pub stood : (t : Tests) → endsOf (endTested t (t .recharge)) ≡ (isTaper (judgedOf t) && (t .observed && t .tapered && t .ending) && not (t .recharge))
+  -- the rules with the test and without are two: some tests tell them apart
   pub rules : (t : Tests) × (phaseOf (endTested t (t .recharge)) ≢ phaseOf t)
+  -- but no state has such tests, whatever it holds, so no settling does
   pub settles : (s : State) (observed : Bool) → settleBy testsEndTested s observed ≡ settleOf s observed
 
 -- 02, R-1: the recharge point "is taken from the charge voltage after the band's cut". VBAT at or above that voltage, in the band that this settling judges

@@ -33,7 +33,7 @@ full-at-voltage p s charge x h =
 module _ (p : Profile) (s : Settings) (charge : PackMv) (x : Sample) where
   near : taperOf charge x ≡ true → charge .0 ≤ x .pack + 10
   unfolding taperOf
-  near tapers = leb-true (charge .0) (x .pack + 10) tapers
+  near tapers = omega (arith, leb-true (charge .0) _ tapers)
 
   above : 323 < x .pack → taperOf charge x ≡ true → belowRecharge p s charge x ≡ false
   unfolding belowRecharge belowShare

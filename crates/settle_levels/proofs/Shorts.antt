@@ -17,7 +17,7 @@ use Rattle.state_parts.specs.declared.sample.Sample.{Sample}
 use Rattle.state_parts.specs.declared.settings.Settings.{Settings}
 use Rattle.settle_levels.specs.Clamps.{faultOf}
 use Rattle.settle_levels.specs.Comparators.{shortReturns, shortOf, latchesOf}
-use Rattle.settle_levels.specs.Theorems.{NoneWithoutShort}
+use Rattle.settle_levels.specs.Theorems.{NoTaperBelowUnlessShort}
 use Rattle.settle_levels.specs.Voltage.{chargeVoltageOf}
 use Rattle.settle_levels.proofs.Least.{some-cell}
 use Rattle.settle_levels.proofs.Points.{taper-figure}
@@ -41,5 +41,5 @@ module _ (p : Profile) (s : Settings) (g : Registers) (x : Sample) (was : Latche
       let m = mul-le-mul (returns-least p g) (some-cell p g (apart .0)) in
       omega arith
 
-pub none-without-short : NoneWithoutShort
-none-without-short p s g b x was ended = taper-figure .packSuffices p s (chargeVoltageOf p s g b) x (omega (arith, ended-pack p s g x was ended))
+pub no-taper-below-unless-short : NoTaperBelowUnlessShort
+no-taper-below-unless-short p s g b x was ended = taper-figure .packSuffices p s (chargeVoltageOf p s g b) x (omega (arith, ended-pack p s g x was ended))

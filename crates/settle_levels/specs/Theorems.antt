@@ -48,7 +48,7 @@ NoTaperBelow =
     → taperOf (chargeVoltageOf p s g b) x ≡ true → belowRecharge p s (chargeVoltageOf p s g b) x ≡ false
 
 -- and where a sample tapers and short has ended, as phase 4 asks, none exists whatever is held: VBAT is then 1,850 mV or more
-abbrev pub NoneWithoutShort : Type 0
-NoneWithoutShort =
+abbrev pub NoTaperBelowUnlessShort : Type 0
+NoTaperBelowUnlessShort =
     (p : Profile) (s : Settings) (g : Registers) (b : Band) (x : Sample) (was : Latches) → latchesOf p s g x was .short ≡ false
     → taperOf (chargeVoltageOf p s g b) x ≡ true → belowRecharge p s (chargeVoltageOf p s g b) x ≡ false

@@ -11,9 +11,9 @@ vchgTable = 0 ∷ 3500 ∷ 3600 ∷ 4000 ∷ 4100 ∷ 4200 ∷ 4300 ∷ 4350 ∷
 abbrev pub vchgOf : Profile → CellMv
 vchgOf p = record { 0 = getD vchgTable (p .vchg % 8) 0 }
 
--- a code that is no fault stands for 3,500 per cell at least
-abbrev pub LeastPin : Type 0
-LeastPin = (p : Profile) → 1 ≤ p .vchg → p .vchg ≤ 7 → 3500 ≤ vchgOf p .0
-
 abbrev pub ichgOf : Profile → ℕ
 ichgOf p = getD (0 ∷ 100 ∷ 500 ∷ 1000 ∷ 1500 ∷ 2000 ∷ 2500 ∷ 3300 ∷ []) (p .ichg % 8) 0
+
+-- a vchg code that is no fault stands for 3,500 per cell at least
+abbrev pub LeastPin : Type 0
+LeastPin = (p : Profile) → 1 ≤ p .vchg → p .vchg ≤ 7 → 3500 ≤ vchgOf p .0
