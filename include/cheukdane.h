@@ -11,8 +11,14 @@
  * says (an empty part may be NULL, 0) and that bytes which a call may change are lent to it once.
  *
  * Words are 32-bit numbers, lowest byte first. A size_t has 64 bits, which is tested below. `number` is 0, or the
- * refusal's number of the paper's table; `place` is the refusal's place: the record's start in a log, 0 outside one. A
- * refusal leaves every lent byte as it was.
+ * refusal's number of the paper's table. A refusal leaves every lent byte as it was.
+ *
+ * `place` is the refusal's place, an offset in the log, and 0 outside one. Of a record that can't be read it is what
+ * decided the number: for 1 the log's end, for 2 the zero group, for 3 the fifth group, for 4 the kind's byte, which is
+ * the record's start. For 2, 3 and 4 the bytes up to and including that one decide: every log that starts with them is
+ * refused with the same number and place, and a log that ends before that byte isn't refused with that number. The
+ * model's refusals, 5 to 11, and 14 have the record's start. Where to read on once the log is mended or longer is told
+ * apart, as `next`.
  *
  * In every call that is lent an image, bytes that aren't an image, or are of another length than CHEUKDANE_IMAGE, are 5
  * before all else; then an answer buffer that is too short is 12; then what the call is about is judged. Of an answer
@@ -44,13 +50,14 @@ typedef char cheukdane_size_t_has_64_bits[sizeof(size_t) == 8 ? 1 : -1];
  * they would part. So both are brought up to new rules together, each with zeroed bytes for an image and its whole log
  * replayed. This is the number at the time of compiling; cheukdane_rules() is that of the archive linked.
  *   1  the base
- *   2  the recharge point is a share of the charge voltage, after the warm cut, and not of the voltage before it */
-#define CHEUKDANE_RULES 2
+ *   2  the recharge point is a share of the charge voltage, after the warm cut, and not of the voltage before it
+ *   3  the place of 1, 2 and 3 is that of the byte that decided it, and not the record's start; replay tells `next` */
+#define CHEUKDANE_RULES 3
 
 /* ---- Images ---- */
 
 /* The format of an image: it moves with the rules, so that no model is carried over from other rules. It is never 0. */
-#define CHEUKDANE_FORMAT 2
+#define CHEUKDANE_FORMAT 3
 
 /* Bytes of an image: 54 words. Word 0 is 0 before a power-on, and then all other words are 0 too; after it, it is the
  * format's number, CHEUKDANE_FORMAT, and the state's numbers follow, from these words on; a yes or no is 1 or 0. So
@@ -245,15 +252,16 @@ struct cheukdane_answer {
 struct cheukdane_played {
     uint32_t number;
     uint32_t kind;  /* of the record that was read; 0 if none was */
-    uint64_t place; /* where that record, or what can't be read, starts; the given place if none was looked for */
-    uint64_t next;  /* where the next record starts; `place` if none was read */
+    uint64_t place; /* the given place, where the record starts; 1 to 4: the place of what decided it */
+    uint64_t next;  /* where the next record starts; the given place if none was read */
 };
 
 struct cheukdane_replayed {
     uint32_t number;
     uint32_t code;    /* 0 at the log's end; else 1 to 4, of what can't be read */
     uint64_t records; /* how many were read; the count has 32 bits and wraps */
-    uint64_t place;   /* the log's end, or where what can't be read starts */
+    uint64_t place;   /* the log's end; with a code, the place of what decided it */
+    uint64_t next;    /* where to go on: the log's end, or where the record that can't be read starts */
 };
 
 struct cheukdane_byte {
@@ -272,7 +280,7 @@ struct cheukdane_compared {
     uint32_t number;
     uint32_t log;    /* whose rest it is: 1 or 2; 0 with a refusal */
     uint64_t record; /* with a refusal, the record's number, from 1; else 0 */
-    uint64_t place;  /* where the rest, or the record, starts */
+    uint64_t place;  /* where the rest starts; 14: where the record does; 1 to 4: of what decided it, in its own log */
 };
 
 /* ---- Calls ---- */
@@ -284,15 +292,19 @@ uint32_t cheukdane_rules(void);
 struct cheukdane_answer cheukdane_off(uint8_t *image, size_t image_length);
 
 /* Plays the record at a place of a log. Accepted: the image is the model after it and `shown` shows it. Refused by the
- * model: 5 to 11, with the kind, and `next` leads on to the next record. Unreadable: 1 to 4 and kind 0. At the log's
- * end or past it: number 0 and kind 0, and no byte is changed. With 5 for the image or 12 no record is looked for: kind
- * 0. */
+ * model: 5 to 11, with the kind, and `next` leads on to the next record. Unreadable: 1 to 4 and kind 0; `place` is of
+ * what decided it, and `next` the given place. At the log's end or past it: number 0 and kind 0, and no byte is
+ * changed. With 5 for the image or 12 no record is looked for: kind 0. */
 struct cheukdane_played cheukdane_play(uint8_t *image, size_t image_length, const uint8_t *log, size_t log_length,
                                        size_t place, uint8_t *shown, size_t shown_length);
 
 /* Plays every record of a log from a place on, to the log's end or to one that can't be read: what a head does when it
  * starts, or catches up. The image is the model after them; records that the model refuses are passed over. From the
- * log's end or past it no record is read, and `place` is as given, as it is with a refusal. */
+ * log's end or past it no record is read, and `place` and `next` are as given, as they are with a refusal.
+ *
+ * A log to which more is being written may end inside a record: code 1. Once it is longer, a replay of it from `next`,
+ * on the image as it was left, comes to what replaying the longer log whole would have: the same image, code, place and
+ * next, and the records of both calls add up, in 32 bits. */
 struct cheukdane_replayed cheukdane_replay(uint8_t *image, size_t image_length, const uint8_t *log, size_t log_length,
                                            size_t place);
 
@@ -314,8 +326,9 @@ struct cheukdane_written cheukdane_write(uint32_t kind, const uint8_t *words, si
                                          size_t out_length);
 
 /* Reads two logs side by side. If one is the other's start: the log whose rest is more, and where that rest starts
- * (equal logs: the first, at its end). Else 14, or 1 to 4 for a record that can't be read, the first log's before the
- * second's, with the record's number and where it starts. */
+ * (equal logs: the first, at its end). Else 14, with the record's number and where it starts; or 1 to 4 for a record
+ * that can't be read, the first log's before the second's, with its number and the place, in that log, of what decided
+ * it. */
 struct cheukdane_compared cheukdane_compare(const uint8_t *first, size_t first_length, const uint8_t *second,
                                             size_t second_length);
 

@@ -1,4 +1,4 @@
-/* The paper's example log, its lines, and all that can be read of the model after it. */
+/* The paper's example log: its lines, replayed whole and as it grows, and all that can be read of the model after it. */
 #include "head.h"
 
 #include <inttypes.h>
@@ -52,11 +52,33 @@ static void the_example_replayed(void) {
     play(&one, EXAMPLE, sizeof EXAMPLE, 0);
     struct cheukdane_replayed replayed = cheukdane_replay(other.image, sizeof other.image, EXAMPLE, sizeof EXAMPLE, 0);
     holds(replayed.number == 0 && replayed.records == 2 && replayed.code == 0 && replayed.place == sizeof EXAMPLE, "the numbers of the example's last line");
+    holds(replayed.next == sizeof EXAMPLE, "and where to go on is the log's end");
     holds(same(one.image, other.image, sizeof one.image), "replayed, it leaves the same image");
     replayed = cheukdane_replay(other.image, sizeof other.image - 1, EXAMPLE, sizeof EXAMPLE, 16);
-    holds(replayed.number == 5 && replayed.records == 0 && replayed.place == 16, "bytes that aren't an image are 5");
+    holds(replayed.number == 5 && replayed.records == 0 && replayed.place == 16 && replayed.next == 16, "bytes that aren't an image are 5");
     holds(same(one.image, other.image, sizeof one.image), "and stay");
     shown(before, "the example log replayed in one call");
+}
+
+/* The same log as it is being written: a head replays it after every byte, from where it was told to go on. */
+static void the_example_as_it_grows(void) {
+    int before = failures;
+    struct head one, other;
+    uint64_t next = 0, records = 0;
+    start(&one);
+    start(&other);
+    play(&one, EXAMPLE, sizeof EXAMPLE, 0);
+    for (size_t length = 0; length <= sizeof EXAMPLE; length++) {
+        struct cheukdane_replayed replayed = cheukdane_replay(other.image, sizeof other.image, EXAMPLE, length, (size_t)next);
+        size_t from = length < 16 ? 0 : length < sizeof EXAMPLE ? 16 : sizeof EXAMPLE;
+        uint32_t wanted = length == from ? CHEUKDANE_ACCEPTED : CHEUKDANE_REFUSED_ENDS_INSIDE;
+        holds(replayed.number == 0 && replayed.code == wanted && replayed.place == length, "it ends at a record's end, or inside one: 1 at the log's end");
+        holds(replayed.next == from, "where to go on is where the record starts that isn't whole yet");
+        next = replayed.next;
+        records += replayed.records;
+    }
+    holds(records == 2 && same(one.image, other.image, sizeof one.image), "both records are played once, and the image is the same");
+    shown(before, "the example log caught up with while it is being written");
 }
 
 /* What the example leaves: report, STAT, registers and the image's words. */
@@ -91,5 +113,6 @@ static void what_is_read(void) {
 void show_the_example(void) {
     the_example();
     the_example_replayed();
+    the_example_as_it_grows();
     what_is_read();
 }

@@ -11,15 +11,50 @@ static void logs_that_break_off(void) {
     for (size_t length = 0; length < sizeof EXAMPLE; length++) {
         struct cheukdane_compared answer = cheukdane_compare(EXAMPLE, length, EXAMPLE, sizeof EXAMPLE);
         int whole = length == 0 || length == 16;
-        holds(answer.number == (whole ? 0u : 1u), "a log that ends inside a record is 1");
+        holds(answer.number == (whole ? 0u : 1u) && answer.place == length, "a log that ends inside a record is 1, at its end");
         uint64_t from = length < 16 ? 0 : 16;
         struct cheukdane_played played = cheukdane_play(head.image, sizeof head.image, EXAMPLE, length, (size_t)from, show, sizeof show);
-        holds(played.kind != 0 || (played.number == (whole ? 0u : 1u) && played.place == from && played.next == from), "and so it is played");
+        holds(played.kind != 0 || (played.number == (whole ? 0u : 1u) && played.place == length && played.next == from), "and so it is played, and goes on at the record's start");
     }
     holds(cheukdane_compare(NULL, 0, NULL, 0).number == 0, "two logs that are NULL, 0 are equal");
     holds(cheukdane_compare(NULL, 0, EXAMPLE, sizeof EXAMPLE).log == 2, "and one is the start of any");
     holds(cheukdane_play(head.image, sizeof head.image, NULL, 0, 0, show, sizeof show).kind == 0, "and has no record");
     shown(before, "logs that break off, and empty ones");
+}
+
+/* A record that can't be read, behind one that can: its number, and the place of what decided it. */
+static const struct {
+    uint8_t log[9];
+    uint32_t number;
+    uint64_t place;
+} UNREADABLE[] = {
+    {{CHEUKDANE_KIND_SERVICE, 5, 1, 2, 3, 4, 5, 0x80, 0x80}, CHEUKDANE_REFUSED_ENDS_INSIDE, 9},
+    {{CHEUKDANE_KIND_SERVICE, 2, 0x80, 0x00, 0x80, 0x00, 0x00, 0x00, 0x00}, CHEUKDANE_REFUSED_ZERO_GROUP, 3},
+    {{CHEUKDANE_KIND_SERVICE, 2, 9, 0x80, 0x80, 0x80, 0x80, 0x00, 0x00}, CHEUKDANE_REFUSED_ZERO_GROUP, 7},
+    {{CHEUKDANE_KIND_SERVICE, 2, 9, 0x80, 0x80, 0x80, 0x80, 0x80, 0x80}, CHEUKDANE_REFUSED_TOO_LARGE, 7},
+    {{CHEUKDANE_KIND_SERVICE, 2, 9, 0xFF, 0xFF, 0xFF, 0xFF, 0x10, 0x00}, CHEUKDANE_REFUSED_TOO_LARGE, 7},
+    {{CHEUKDANE_KIND_SERVICE, 8, 0x80, 0x00, 0x80, 0x00, 0x00, 0x00, 0x00}, CHEUKDANE_REFUSED_UNKNOWN_KIND, 1},
+};
+
+static void bytes_that_decide(void) {
+    int before = failures;
+    const uint8_t other[10] = {CHEUKDANE_KIND_SERVICE, CHEUKDANE_KIND_SERVICE};
+    struct head head;
+    uint8_t show[CHEUKDANE_SHOWN];
+    start(&head);
+    for (size_t at = 0; at < sizeof UNREADABLE / sizeof UNREADABLE[0]; at++) {
+        const uint8_t *log = UNREADABLE[at].log;
+        size_t length = sizeof UNREADABLE[at].log;
+        uint32_t number = UNREADABLE[at].number;
+        uint64_t place = UNREADABLE[at].place;
+        struct cheukdane_played played = cheukdane_play(head.image, sizeof head.image, log, length, 1, show, sizeof show);
+        holds(played.number == number && played.kind == 0 && played.place == place && played.next == 1, "played, it is refused at that byte");
+        struct cheukdane_replayed replayed = cheukdane_replay(head.image, sizeof head.image, log, length, 0);
+        holds(replayed.code == number && replayed.place == place && replayed.records == 1 && replayed.next == 1, "replayed too");
+        struct cheukdane_compared answer = cheukdane_compare(other, sizeof other, log, length);
+        holds(answer.number == number && answer.record == 2 && answer.place == place, "compared, it is an offset in its own log");
+    }
+    shown(before, "the byte that decided it, of a record that can't be read");
 }
 
 static void short_buffers(void) {
@@ -101,6 +136,7 @@ static void refusals(void) {
 
 void show_refusals(void) {
     logs_that_break_off();
+    bytes_that_decide();
     short_buffers();
     short_records();
     refusals();

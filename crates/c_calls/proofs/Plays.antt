@@ -42,7 +42,7 @@ none-made image saved done ed es e = let t : isLong image ≡ false = sym ed ∙
 
 -- an answer that is no record
 module _ (image log : List ℕ) (place : ℕ) (shown : List ℕ) (x : Ready) (told : readyTold x ≡ readyOf image (length shown) 28) where
-  pub not-played : (r : Refusal) (n : ℕ) → x ≡ ready.Refused r → n ≡ refusalNumber r → both (unread n place) image shown ≡ playOf image log place shown
+  pub not-played : (r : Refusal) (n : ℕ) → x ≡ ready.Refused r → n ≡ refusalNumber r → both (unread n place place) image shown ≡ playOf image log place shown
   unfolding playOf
   not-played r n e en = rw (← told, e, en)
 

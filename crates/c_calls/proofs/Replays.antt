@@ -16,12 +16,12 @@ use Rattle.c_calls.specs.Replaying.{walkFrom, replayOf}
 use Rattle.c_calls.specs.declared.answer.Replayed.{Replayed}
 
 module _ (image log : List ℕ) (place : ℕ) (x : Loaded) (told : loadedTold x ≡ modelIn image) where
-  pub not-replayed : x ≡ NoImage → _≡_ {A = Left Replayed} (left (record { number = 5; code = 0; records = 0; place = place }) image) (replayOf image log place)
+  pub not-replayed : x ≡ NoImage → _≡_ {A = Left Replayed} (left (record { number = 5; code = 0; records = 0; place = place; next = place }) image) (replayOf image log place)
   unfolding replayOf
   not-replayed e = rw (← told, e)
 
   pub replayed : (m : Model) (ended : Ended) (saved : List ℕ) → x ≡ Held m → ended ≡ endedOf log (walkFrom m place) → saved ≡ savedIn image (ended .walk .model)
-      → _≡_ {A = Left Replayed} (left (record { number = 0; code = ended .code; records = ended .walk .number; place = ended .place }) saved) (replayOf image log place)
+      → _≡_ {A = Left Replayed} (left (record { number = 0; code = ended .code; records = ended .walk .number; place = ended .place; next = ended .walk .place }) saved) (replayOf image log place)
   unfolding replayOf savedIn
   replayed m ended saved e ee es =
       let long : length image ≡ imageLength = loaded-long image m (sym told ∙ ap loadedTold e) in

@@ -36,7 +36,7 @@ pub record Both (A : Type 0) : Type 0 where
 abbrev pub both : {A : Type 0} → A → List ℕ → List ℕ → Both A
 both a image shown = record { answer = a; image = image; shown = shown }
 
--- "`number` is 0, or the refusal's number of the paper's table; `place` is the refusal's place: the record's start in a log, 0 outside one."
+-- "`number` is 0, or the refusal's number of the paper's table." "`place` is the refusal's place, an offset in the log, and 0 outside one."
 abbrev pub answered : ℕ → Answer
 answered number = record { number = number; place = 0 }
 

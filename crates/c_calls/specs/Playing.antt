@@ -22,15 +22,15 @@ use Rattle.c_calls.specs.declared.answer.Played.{Played}
 unfoldable pub offOf : List ℕ → Left Answer
 offOf image = pick (isLong image) (left (answered 0) (imageOf Off)) (left (answered 5) image)
 
--- "of the record that was read; 0 if none was", "where the next record starts; `place` if none was read"
-abbrev pub unread : ℕ → ℕ → Played
-unread number place = record { number = number; kind = 0; place = place; next = place }
+-- "of the record that was read; 0 if none was", "where the next record starts; the given place if none was read"
+abbrev pub unread : ℕ → ℕ → ℕ → Played
+unread number told place = record { number = number; kind = 0; place = told; next = place }
 
--- "Unreadable: 1 to 4 and kind 0. At the log's end or past it: number 0 and kind 0, and no byte is changed."
+-- "Unreadable: 1 to 4 and kind 0; `place` is of what decided it, and `next` the given place. At the log's end or past it: number 0 and kind 0, and no byte is changed."
 abbrev pub stoppedOf : Met → ℕ → Played
-stoppedOf (met e next) place = unread 0 place
-stoppedOf (log.refused number at) place = unread number at
-stoppedOf end place = unread 0 place
+stoppedOf (met e next) place = unread 0 place place
+stoppedOf (log.refused number decided) place = unread number decided place
+stoppedOf end place = unread 0 place place
 
 -- "Refused by the model: 5 to 11, with the kind, and `next` leads on to the next record."
 abbrev pub playedOf : Event → ℕ → ℕ → Both ℕ → Both Played
@@ -38,11 +38,11 @@ playedOf e place next l = both (record { number = l .answer; kind = kindByte (ki
 
 abbrev pub playRead : Model → Met → List ℕ → ℕ → List ℕ → Both Played
 playRead m (met e next) image place shown = playedOf e place next (landOf (stepOf m e) image shown)
-playRead m (log.refused number at) image place shown = both (stoppedOf (log.refused number at) place) image shown
+playRead m (log.refused number decided) image place shown = both (stoppedOf (log.refused number decided) place) image shown
 playRead m end image place shown = both (stoppedOf end place) image shown
 
 abbrev pub playReady : Told Model → Met → List ℕ → ℕ → List ℕ → Both Played
-playReady (refused number) r image place shown = both (unread number place) image shown
+playReady (refused number) r image place shown = both (unread number place place) image shown
 playReady (accepted m) r image place shown = playRead m r image place shown
 
 -- "Plays the record at a place of a log."

@@ -14,13 +14,14 @@ use Rattle.c_calls.specs.declared.answer.Replayed.{Replayed}
 abbrev pub walkFrom : Model → ℕ → Walk
 walkFrom m place = record { model = m; number = 0; place = place }
 
--- "The image is the model after them"; "how many were read", "the log's end, or where what can't be read starts"
+-- "The image is the model after them"; "how many were read", "the log's end; with a code, the place of what decided it", "where to go on: the log's end, or where the
+-- record that can't be read starts"
 abbrev pub replayedBy : Ended → Left Replayed
-replayedBy e = left (record { number = 0; code = e .code; records = e .walk .number; place = e .place }) (imageOf (e .walk .model))
+replayedBy e = left (record { number = 0; code = e .code; records = e .walk .number; place = e .place; next = e .walk .place }) (imageOf (e .walk .model))
 
--- "bytes that aren't an image .. are 5 before all else"; "`place` is as given, as it is with a refusal"
+-- "bytes that aren't an image .. are 5 before all else"; "`place` and `next` are as given, as they are with a refusal"
 abbrev pub replayIn : Told Model → List ℕ → List ℕ → ℕ → Left Replayed
-replayIn (refused number) image log place = left (record { number = number; code = 0; records = 0; place = place }) image
+replayIn (refused number) image log place = left (record { number = number; code = 0; records = 0; place = place; next = place }) image
 replayIn (accepted m) image log place = replayedBy (endedOf log (walkFrom m place))
 
 -- "Plays every record of a log from a place on, to the log's end or to one that can't be read."

@@ -10,9 +10,9 @@ pub struct Played {
     pub number: u32,
     // of the record that was read; 0 if none was
     pub kind: u32,
-    // where that record, or what can't be read, starts
+    // the given place, where the record starts; if it can't be read, the place of what decided that
     pub place: usize,
-    // where the next record starts; `place` if none was read
+    // where the next record starts; the given place if none was read
     pub next: usize,
 }
 
@@ -23,8 +23,10 @@ pub struct Replayed {
     pub code: u32,
     // how many were read
     pub records: usize,
-    // the log's end, or where what can't be read starts
+    // the log's end; of what can't be read, the place of what decided that
     pub place: usize,
+    // where to go on: the log's end, or where what can't be read starts
+    pub next: usize,
 }
 
 #[repr(C)]
@@ -49,6 +51,6 @@ pub struct ComparedLogs {
     pub log: u32,
     // with a refusal, the record's number, from 1; else 0
     pub count: usize,
-    // where the rest, or the record, starts
+    // where the rest, or the record that differs, starts; of one that can't be read, the place of what decided that
     pub place: usize,
 }

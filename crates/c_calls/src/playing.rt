@@ -49,7 +49,7 @@ fn stopped(got: Read, at: usize) -> Played
                 number,
                 kind: 0,
                 place,
-                next: place,
+                next: at,
             }
         }
         Read::End => Played {

@@ -17,6 +17,7 @@ pub extern "C" fn cheukdane_replay(image: &mut [u8], log: &[u8], place: usize) -
             code: 0,
             records: 0,
             place,
+            next: place,
         },
         Loaded::Held(model) => {
             let from = Walk {
@@ -33,6 +34,7 @@ pub extern "C" fn cheukdane_replay(image: &mut [u8], log: &[u8], place: usize) -
                 code: ended.code,
                 records: after.number as usize,
                 place: ended.place,
+                next: after.place,
             }
         }
     }

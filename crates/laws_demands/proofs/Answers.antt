@@ -15,29 +15,19 @@ use Rattle.log_event.specs.declared.Event.{Event}
 use Rattle.log_record.specs.Records.{Met, met, refused, end}
 use Rattle.laws_step.specs.Rows.{Among}
 use Rattle.laws_format.specs.Format.{Spells, kind-then-numbers}
-use Rattle.laws_format.specs.Unreadable.{NoNumber, cut-off, five-high, too-large, zero-last, NoRecord, no-kind, stopped}
 use Rattle.laws_format.specs.Readers.{Reader, SpelledAt, Reads}
+use Rattle.laws_format.proofs.RecordsDecided.{record-among, record-within}
 use Rattle.laws_demands.specs.Product.{Step, Reporter, Walker, LogLines}
 use Rattle.laws_demands.specs.Printed.{Log, readOn, logFrom, linesBy, printedBy}
 use Rattle.laws_demands.specs.Second.{Walks}
 use Rattle.log_pairs.specs.Comparing.{Answer}
 use Rattle.laws_pairs.specs.Compared.{SideBySide, second-is-start, first-is-start, first-unreadable, second-unreadable, different}
-use Rattle.laws_demands.specs.First.{ReadAt, event, unreadable, WalkedIn, whole, ComparedIn, rest-of-first, rest-of-second, parted}
+use Rattle.laws_demands.specs.First.{ReadAt, event, unreadable, WalkedIn, whole, ComparedIn, rest-of-first, rest-of-second, unread-in-first, unread-in-second, parted}
 use Rattle.laws_demands.specs.First as first
 
--- a spelling has a byte, and an unreadable place too
+-- a spelling has a byte
 pub some-byte : (e : Event) (bytes : List ℕ) → Spells e bytes → 1 ≤ length bytes
 some-byte e _ (kind-then-numbers _ kind ns bytes l n) = omega arith
-
-one-to-three : (n : ℕ) (s : List ℕ) → NoNumber n s → Among n 1 3
-one-to-three _ _ (cut-off high h l) = (omega arith, omega arith)
-one-to-three _ _ (five-high high rest h l) = (omega arith, omega arith)
-one-to-three _ _ (too-large n groups rest g l) = (omega arith, omega arith)
-one-to-three _ _ (zero-last high rest h l k) = (omega arith, omega arith)
-
-one-to-four : (n : ℕ) (s : List ℕ) → NoRecord n s → Among n 1 4 × (1 ≤ length s)
-one-to-four _ _ (no-kind b rest h) = ((omega arith, omega arith), omega arith)
-one-to-four _ _ (stopped n kind e all ns before left l k h none) = let w = one-to-three n left none in ((w .0, omega (arith, w .1)), omega arith)
 
 module _ (read : Reader) (keeps : Reads read) (bytes : List ℕ) (are : Bytes bytes) where
   within : (at : ℕ) (e : Event) (next : ℕ) → SpelledAt bytes at e next → (at < next) × (next ≤ length bytes)
@@ -53,8 +43,9 @@ module _ (read : Reader) (keeps : Reads read) (bytes : List ℕ) (are : Bytes by
   read-by at (met e next) h = let w = within at e next (keeps .only bytes are at e next h) in event e next (w .0) (w .1)
   read-by at (refused n place) h =
       let row = keeps .refuses bytes are at n place .0 h in
-      let k = one-to-four n (drop at bytes) (row .0) in
-      subst (λ (q : ℕ). ReadAt bytes at (refused n q)) (sym (row .1)) (unreadable n (omega (arith, k .1, length-drop at bytes)) (k .0))
+      let k = record-within (row .row) in
+      let long = length-drop at bytes in
+      unreadable n place (omega (arith, k .2)) (record-among (row .row)) (omega (arith, row .counts)) (omega (arith, k .0, k .2, row .counts))
   read-by at end h = first.end (keeps .ends bytes are at .0 h)
 
   pub reads-answer : (at : ℕ) → ReadAt bytes at (read bytes at)
@@ -62,12 +53,12 @@ module _ (read : Reader) (keeps : Reads read) (bytes : List ℕ) (are : Bytes by
 
   -- a log that was read from a place on, with records enough allowed for: to its end, or to what can't be read
   abbrev Ended : Log → Type 0
-  Ended l = ((l .code ≡ 0) × (l .offset ≡ length bytes)) ⊎ (Among (l .code) 1 4 × (l .offset < length bytes))
+  Ended l = ((l .code ≡ 0) × (l .offset ≡ length bytes)) ⊎ (Among (l .code) 1 4 × (l .offset ≤ length bytes))
 
   ended-by : (most at : ℕ) → at ≤ length bytes → ((next : ℕ) → next ≤ length bytes → length bytes < next + most → Ended (logFrom read most bytes next))
       → length bytes < at + suc most → (x : Met) → ReadAt bytes at x → Ended (readOn at x (λ next. logFrom read most bytes next))
   ended-by most at inside more room _ (event e next ahead in-log) = more next in-log (omega arith)
-  ended-by most at inside more room _ (unreadable n in-log w) = inr (w, in-log)
+  ended-by most at inside more room _ (unreadable n place in-log w ahead far) = inr (w, far)
   ended-by most at inside more room _ (first.end late) = inl (refl, omega arith)
 
   ended : (most at : ℕ) → at ≤ length bytes → length bytes < at + most → Ended (logFrom read most bytes at)
@@ -103,7 +94,7 @@ walked step report read walk by keeps bytes are = go (ltb 65536 (length bytes)) 
     go false e =
         subst (λ (w : LogLines). WalkedIn bytes w) (sym (by .walks bytes are (ltb-false 65536 (length bytes) e))) (walk-answers step report read keeps bytes are)
 
--- two logs by what they come to: a rest starts within its log, and where they part both go on
+-- two logs by what they come to: a rest starts within its log, what can't be read is told within its own, and where they part both go on
 within-first : (start rest : List ℕ) → length start ≤ length (start ++ rest)
 within-first start rest = omega (arith, length-append start rest)
 
@@ -116,11 +107,9 @@ record-goes-on start spelling rest e s = goes-on start (spelling ++ rest) (omega
 pub compared : {a b : List ℕ} {answer : Answer} → SideBySide a b answer → ComparedIn a b answer
 compared (second-is-start both start rest s) = rest-of-first (length start) (within-first start rest)
 compared (first-is-start both start rest s h) = rest-of-second (length start) (within-first start rest)
-compared (first-unreadable n both start rest other s row h) =
-    let k = one-to-four n rest row in
-    parted n (suc (length both)) (length start) (inl (k .0)) (omega arith) (goes-on start rest (k .1)) (goes-on start other h)
-compared (second-unreadable n both e start spelling rest other s t row) =
-    let k = one-to-four n other row in
-    parted n (suc (length both)) (length start) (inl (k .0)) (omega arith) (record-goes-on start spelling rest e t) (goes-on start other (k .1))
+compared (first-unreadable n place both start rest other s row h) =
+    unread-in-first n (suc (length both)) (length start + place) (record-among row) (omega arith) (omega (arith, length-append start rest, record-within row .0))
+compared (second-unreadable n place both e start spelling rest other s t row) =
+    unread-in-second n (suc (length both)) (length start + place) (record-among row) (omega arith) (omega (arith, length-append start other, record-within row .0))
 compared (different both e f start spelling rest another other s t u h) =
-    parted 14 (suc (length both)) (length start) (inr refl) (omega arith) (record-goes-on start spelling rest e t) (record-goes-on start another other f u)
+    parted (suc (length both)) (length start) (omega arith) (record-goes-on start spelling rest e t) (record-goes-on start another other f u)

@@ -7,6 +7,7 @@ use Rattle.laws_format.proofs.Keeping.{our-reads, our-writes}
 use Rattle.laws_pairs.proofs.Comparing.{our-compares}
 use Rattle.laws_pairs.proofs.Printing.{our-printed}
 use Rattle.laws_heads.proofs.Second.{second-of-images}
+use Rattle.laws_heads.proofs.Growing.{catches-up}
 use Rattle.laws_demands.specs.Ours.{ourPartlog, SecondHolds}
 use Rattle.laws_demands.proofs.Places.{plays-at}
 use Rattle.laws_demands.proofs.Prints.{our-walks}
@@ -27,4 +28,5 @@ second-holds = record {
   partlog = λ a b are bes. our-printed a b are bes (ourPartlog a b) .1 refl;
   places = plays-at;
   heads = second-of-images;
+  grows = catches-up;
 }

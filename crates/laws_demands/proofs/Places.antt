@@ -1,25 +1,46 @@
--- A record that is played is answered with the place at which it starts.
+-- A record that is played is answered with the place at which it starts, or with that of what decided that it can't be read.
 use Prim.Native.Nat.{ℕ}
-use mathlib.Core.Path.{_≡_, refl}
+use mathlib.Core.Path.{_≡_, refl, sym, _∙_}
 use mathlib.Core.List.{List}
+use mathlib.Core.Option.{none, some}
+use native.Mathlib.Omega.{arith}
 use lib.ListN.{length}
+use borrow.Author.Tests.{eq-eqb, ne-eqb}
 use Rattle.base.specs.Told.{Told, accepted, refused}
 use Rattle.state_parts.specs.declared.state.Model.{Model}
 use Rattle.log_number.specs.Promises.{Bytes}
-use Rattle.log_event.specs.Kinds.{kinds}
+use Rattle.log_event.specs.Events.{kindOf}
+use Rattle.log_event.specs.Kinds.{kindByte, kindRow, kinds}
+use Rattle.log_event.specs.declared.kinds.Kind.{Kind}
+use Rattle.log_event.proofs.Remaking.{row-of-its-own}
 use Rattle.log_record.specs.Records.{Met, met, end, recordAt}
 use Rattle.log_record.specs.Records as log
 use Rattle.c_calls.specs.Landing.{readyOf}
 use Rattle.c_calls.specs.Playing.{playReady, playOf}
 use Rattle.laws_format.proofs.Keeping.{our-reads}
+use Rattle.laws_format.proofs.RecordsRefused.{no-row}
+use Rattle.laws_format.proofs.RecordsDecided.{record-among}
+use Rattle.laws_heads.proofs.Third.{not-ready}
+use Rattle.laws_demands.specs.Second.{PlayedAt}
+
+-- no kind has the number that stands for none
+some-kind : (k : Kind) → kindByte k ≡ 0 → ⊥
+some-kind k e =
+    let z : some (kindRow k) ≡ none = sym (row-of-its-own k) ∙ no-row (kindByte k) (λ a. omega (arith, a .0, e)) in
+    let y : _≡_ {A = ℕ} 0 1 = cc in
+    omega arith
 
 module _ (image bytes : List ℕ) (are : Bytes bytes) (place : ℕ) (shown : List ℕ) where
-  by : (m : Told Model) (x : Met) → recordAt kinds bytes place ≡ x → playReady m x image place shown .answer .place ≡ place
-  by (refused number) x h = refl
-  by (accepted m) (met e next) h = refl
-  by (accepted m) (log.refused n at) h = our-reads .refuses bytes are place n at .0 h .1
-  by (accepted m) end h = refl
+  by : (m : Told Model) → readyOf image (length shown) 28 ≡ m → (x : Met) → recordAt kinds bytes place ≡ x → PlayedAt place x (playReady m x image place shown .answer)
+  by (refused number) r (met e next) h = record { place = refl; next = λ k. refl }
+  by (refused number) r (log.refused n decided) h =
+      let low = record-among (our-reads .refuses bytes are place n decided .0 h .row) in
+      record { place = rw (ne-eqb number n (λ e. omega (arith, e, not-ready image (length shown) 28 number r, low .1))); next = λ k. refl }
+  by (refused number) r end h = record { place = refl; next = λ k. refl }
+  by (accepted m) r (met e next) h = record { place = refl; next = λ k. absurd (some-kind (kindOf e) k) }
+  by (accepted m) r (log.refused n decided) h = record { place = rw (eq-eqb n n refl); next = λ k. refl }
+  by (accepted m) r end h = record { place = refl; next = λ k. refl }
 
-  pub plays-at : playOf image bytes place shown .answer .place ≡ place
+  pub plays-at : PlayedAt place (recordAt kinds bytes place) (playOf image bytes place shown .answer)
   unfolding playOf
-  plays-at = by (readyOf image (length shown) 28) (recordAt kinds bytes place) refl
+  plays-at = by (readyOf image (length shown) 28) refl (recordAt kinds bytes place) refl

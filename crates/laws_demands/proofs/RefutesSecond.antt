@@ -59,7 +59,7 @@ use Rattle.step_event.proofs.Numbered.{some-number}
 use Rattle.log_number.specs.Promises.{Bytes}
 use Rattle.laws_format.specs.Ours.{ourRead}
 use Rattle.laws_format.specs.Readers.{Writes}
-use Rattle.laws_format.specs.Wrong.{readsSwapped, writesSwapped, readsFirst, refusesWithOne, swapsTwoAndThree}
+use Rattle.laws_format.specs.Wrong.{readsSwapped, writesSwapped, readsFirst, refusesWithOne, swapsTwoAndThree, tellsStart}
 use Rattle.laws_format.proofs.Examples.{paper-bytes}
 use Rattle.laws_format.proofs.Refutes.{format-refuted}
 use Rattle.laws_demands.specs.Product.{Step, Reporter, Walker, LogLines, Product}
@@ -152,4 +152,7 @@ second-refuted = record {
   firstAlone = parts-break .read readsFirst (format-refuted .firstAlone);
   oneForAll = parts-break .read refusesWithOne (format-refuted .oneForAll);
   twoAndThree = parts-break .read swapsTwoAndThree (format-refuted .twoAndThree);
+  oneAtStart = parts-break .read (tellsStart 1) (format-refuted .oneAtStart);
+  twoAtStart = parts-break .read (tellsStart 2) (format-refuted .twoAtStart);
+  threeAtStart = parts-break .read (tellsStart 3) (format-refuted .threeAtStart);
 }

@@ -24,10 +24,11 @@ pub record Answered (m : Model) (o : Outcome) : Type 0 where
   pub number : (o .number ≡ 0) ⊎ Among (o .number) 5 11
   pub refused : o .number ≢ 0 → Untouched m o
 
--- "every byte string gets an answer": within it a record and a place further on, or a number of the log's order with "the record's start"; from its end on the end
+-- "every byte string gets an answer": within it a record and a place further on, or a number of the log's order with a place from the record's start to the log's end; from its end on the
+-- end
 pub data ReadAt (bytes : List ℕ) (at : ℕ) : Met → Type 0 where
   event : (e : Event) (next : ℕ) → at < next → next ≤ length bytes → ReadAt bytes at (log.met e next)
-  unreadable : (n : ℕ) → at < length bytes → Among n 1 4 → ReadAt bytes at (log.refused n at)
+  unreadable : (n place : ℕ) → at < length bytes → Among n 1 4 → at ≤ place → place ≤ length bytes → ReadAt bytes at (log.refused n place)
   end : length bytes ≤ at → ReadAt bytes at log.end
 
 -- so many bytes written within the room, "bytes after it stay"; or 12 at the write place, and "a refused write changes no byte"
@@ -38,14 +39,17 @@ pub data WrittenIn (buffer : List ℕ) : Wrote × List ℕ → Type 0 where
 -- a whole log: read to its end or to a record of it that can't be read, with a line for each record before; or 13 and no line
 pub data WalkedIn (bytes : List ℕ) (w : LogLines) : Type 0 where
   whole : w .last ≡ length (w .lines) ∷ 0 ∷ length bytes ∷ [] → WalkedIn bytes w
-  stopped : (n at : ℕ) → Among n 1 4 → at < length bytes → w .last ≡ length (w .lines) ∷ n ∷ at ∷ [] → WalkedIn bytes w
+  stopped : (n at : ℕ) → Among n 1 4 → at ≤ length bytes → w .last ≡ length (w .lines) ∷ n ∷ at ∷ [] → WalkedIn bytes w
   too-long : 65536 < length bytes → w ≡ refusedRun → WalkedIn bytes w
 
--- two logs: the rest of one from a place in it, or a number with a record's number and a place at which both go on
+-- two logs: the rest of one from a place in it; the number of what can't be read in one of them, with the record's number and a place in that log; or 14 with the record's number and a place at
+-- which both go on
 pub data ComparedIn (a b : List ℕ) : Answer → Type 0 where
   rest-of-first : (at : ℕ) → at ≤ length a → ComparedIn a b (pairs.first at)
   rest-of-second : (at : ℕ) → at ≤ length b → ComparedIn a b (pairs.second at)
-  parted : (n number at : ℕ) → Among n 1 4 ⊎ (n ≡ 14) → 1 ≤ number → at < length a → at < length b → ComparedIn a b (pairs.refused n number at)
+  unread-in-first : (n number place : ℕ) → Among n 1 4 → 1 ≤ number → place ≤ length a → ComparedIn a b (pairs.refused n number place)
+  unread-in-second : (n number place : ℕ) → Among n 1 4 → 1 ≤ number → place ≤ length b → ComparedIn a b (pairs.refused n number place)
+  parted : (number at : ℕ) → 1 ≤ number → at < length a → at < length b → ComparedIn a b (pairs.refused 14 number at)
 
 -- "the calls ask nothing of their caller": each is for every model, event, log, place and buffer, also a model that holds what it may not
 pub record FirstDemand (p : Product) : Type 0 where

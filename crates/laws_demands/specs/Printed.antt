@@ -76,10 +76,14 @@ unfoldable pub logFrom : Reader → ℕ → List ℕ → ℕ → Log
 logFrom read zero bytes at = record { events = []; code = 0; offset = at }
 logFrom read (suc most) bytes at = readOn at (read bytes at) (λ next. logFrom read most bytes next)
 
--- a whole log, on a model that is off: it has no more records than bytes
+-- a whole log: it has no more records than bytes
+abbrev pub logBy : Reader → List ℕ → Log
+logBy read bytes = logFrom read (suc (length bytes)) bytes 0
+
+-- and on a model that is off
 unfoldable pub printedBy : Step → Reporter → Reader → List ℕ → LogLines
 printedBy step report read bytes =
-    let log = logFrom read (suc (length bytes)) bytes 0 in
+    let log = logBy read bytes in
     record { lines = linesBy step report Off 0 (log .events); last = length (log .events) ∷ log .code ∷ log .offset ∷ [] }
 
 -- 13: "program input above 65,536 bytes": "it prints only `end 0 13 0`"

@@ -7,10 +7,11 @@ use Rattle.report_state.specs.Report.{reportOf}
 use Rattle.laws_account.specs.Cycles.{Stage}
 use Rattle.c_calls.specs.Promises.{Calls, RefusalLeaves}
 use Rattle.laws_format.specs.Readers.{Reader, Writer, Reads, Writes}
-use Rattle.laws_format.specs.Wrong.{readsSwapped, writesSwapped, readsFirst, refusesWithOne, swapsTwoAndThree}
+use Rattle.laws_format.specs.Wrong.{readsSwapped, writesSwapped, readsFirst, refusesWithOne, swapsTwoAndThree, tellsStart}
 use Rattle.laws_pairs.specs.Compared.{Comparer, Compares}
 use Rattle.laws_third.specs.Demand.{ThirdOfLists}
 use Rattle.laws_heads.specs.Third.{ThirdOfImages}
+use Rattle.laws_heads.specs.Growing.{CatchesUp}
 use Rattle.laws_demands.specs.Product.{Step, Reporter, Walker, Product}
 use Rattle.laws_demands.specs.First.{FirstDemand}
 use Rattle.laws_demands.specs.Second.{SecondDemand}
@@ -72,6 +73,10 @@ pub record SecondRefuted : Type 0 where
   pub firstAlone : ReadBreaks readsFirst
   pub oneForAll : ReadBreaks refusesWithOne
   pub twoAndThree : ReadBreaks swapsTwoAndThree
+  -- before 02, R-4: the record's start, for 1, for 2 or for 3
+  pub oneAtStart : ReadBreaks (tellsStart 1)
+  pub twoAtStart : ReadBreaks (tellsStart 2)
+  pub threeAtStart : ReadBreaks (tellsStart 3)
 
 -- demand 3, of a step, whatever is reported of its states
 abbrev pub StepBreaksThird : Step → Type 0
@@ -107,5 +112,6 @@ pub record PartsBreak : Type 0 where
   pub write : (write : Writer) → ¬ Writes write → WriteBreaks write
   pub compare : (compare : Comparer) → ¬ Compares compare → (p : Product) → p .compare ≡ compare → ¬ SecondDemand p
   pub leaves : (calls : Calls) → ¬ RefusalLeaves calls → (p : Product) → p .calls ≡ calls → ¬ FirstDemand p
+  pub grows : (calls : Calls) → ¬ CatchesUp calls → (p : Product) → p .calls ≡ calls → ¬ SecondDemand p
   pub images : (calls : Calls) → ¬ ThirdOfImages calls → (p : Product) → p .calls ≡ calls → ¬ ThirdDemand p
   pub lists : (step : Step) (report : Reporter) → ¬ ThirdOfLists step report → (p : Product) → p .step ≡ step → p .report ≡ report → ¬ ThirdDemand p

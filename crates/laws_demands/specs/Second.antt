@@ -5,13 +5,17 @@ use mathlib.Core.Path.{_≡_}
 use mathlib.Core.Bool.{true}
 use mathlib.Core.List.{List}
 use mathlib.Core.Logic.{_↔_}
+use lib.Dec.{eqb}
 use lib.ListN.{length}
+use Rattle.base.specs.Pick.{pick}
 use Rattle.base.specs.Told.{Told}
 use Rattle.state_parts.specs.declared.state.State.{State}
 use Rattle.state_parts.specs.declared.state.Model.{Model}
 use Rattle.state_registers.specs.Reads.{readRegisterOf}
 use Rattle.log_number.specs.Promises.{Bytes}
 use Rattle.log_event.specs.declared.Event.{Event}
+use Rattle.log_record.specs.Records.{Met, met, refused, end}
+use Rattle.c_calls.specs.declared.answer.Played.{Played}
 use Rattle.report_state.specs.declared.answer.Stat.{Stat}
 use Rattle.report_state.specs.Report.{reportOf}
 use Rattle.report_state.specs.Stats.{statOf}
@@ -27,6 +31,7 @@ use Rattle.laws_format.specs.Readers.{Reader, Reads, Writes}
 use Rattle.laws_pairs.specs.Compared.{Compares}
 use Rattle.laws_pairs.specs.Files.{Printed}
 use Rattle.laws_heads.specs.Second.{SecondOfImages}
+use Rattle.laws_heads.specs.Growing.{CatchesUp}
 use Rattle.laws_demands.specs.Product.{Step, Reporter, Walker, Product}
 use Rattle.laws_demands.specs.Printed.{printedBy, refusedRun, RunText}
 
@@ -59,6 +64,17 @@ pub record Walks (step : Step) (report : Reporter) (read : Reader) (walk : Walke
   pub walks : (bytes : List ℕ) → Bytes bytes → length bytes ≤ 65536 → walk bytes ≡ printedBy step report read bytes
   pub stops : (bytes : List ℕ) → 65536 < length bytes → walk bytes ≡ refusedRun
 
+-- "The place is the record's start", the model's refusals in a log included; of what can't be read, if that is what is told, it is what decided it
+abbrev pub placeBy : ℕ → ℕ → Met → ℕ
+placeBy number place (met e next) = place
+placeBy number place (refused n decided) = pick (eqb number n) decided place
+placeBy number place end = place
+
+-- and "where the next record starts; the given place if none was read"
+pub record PlayedAt (given : ℕ) (there : Met) (told : Played) : Type 0 where
+  pub place : told .place ≡ placeBy (told .number) given there
+  pub next : told .kind ≡ 0 → told .next ≡ given
+
 pub record SecondDemand (p : Product) : Type 0 where
   pub moves : Moves (p .step)
   pub reports : Reports (p .report)
@@ -72,7 +88,9 @@ pub record SecondDemand (p : Product) : Type 0 where
   pub runlog : (bytes : List ℕ) → Bytes bytes → RunText (p .walk bytes .lines) (p .walk bytes .last) (p .runlog bytes)
   -- what partlog prints: 13 above 65,536 bytes, else what the two logs come to
   pub partlog : (a b : List ℕ) → Bytes a → Bytes b → Printed a b (p .partlog a b)
-  -- "The place is the record's start", the model's refusals in a log included: a record that a head plays
-  pub places : (image log : List ℕ) → Bytes log → (place : ℕ) (shown : List ℕ) → p .calls .play image log place shown .answer .place ≡ place
+  -- where a head that plays a record is told to be, whatever bytes it lends for an image
+  pub places : (image log : List ℕ) → Bytes log → (place : ℕ) (shown : List ℕ) → PlayedAt place (p .read log place) (p .calls .play image log place shown .answer)
   -- what the calls for C answer and leave of every image that they moved
   pub heads : SecondOfImages (p .calls)
+  -- and that a replay of a log that has grown goes on where the one before it stopped
+  pub grows : CatchesUp (p .calls)

@@ -1,6 +1,6 @@
 -- This product's reader and writer keep the format.
 use Prim.Native.Nat.{ℕ, _+_, _≤_, _<_}
-use mathlib.Core.Path.{_≡_, refl, ap, _∙_, subst}
+use mathlib.Core.Path.{_≡_, refl, sym, ap, _∙_, subst}
 use mathlib.Core.List.{List, [], _++_}
 use native.Mathlib.Omega.{arith}
 use lib.ListN.{length, drop, length-drop, drop-of-length-le}
@@ -25,30 +25,30 @@ only bytes bs at e next m =
     let k = one-spelling bytes bs at e next m in
     record { spelling = spellEvent e; spells = spelled e (k .fits); long = k .long; start = k .start }
 
-row-of : (at n place : ℕ) {s : List ℕ} {x : Met} → Recorded s x → placed at x ≡ refused n place → NoRecord n s × (place ≡ at)
+row-of : (at n place : ℕ) {s : List ℕ} {x : Met} → Recorded s x → placed at x ≡ refused n place → (after : ℕ) × NoRecord n s after × (place ≡ at + after)
 row-of at n place (a-record s e c) m = absurd (let z : _≡_ {A = ℕ} 0 1 = cc in omega arith)
-row-of at n place (no-record k s row) m =
+row-of at n place (no-record k after s row) m =
     let same : k ≡ n = cc in
-    let there : at + 0 ≡ place = cc in
-    (subst (λ (j : ℕ). NoRecord j s) same row, omega arith)
+    let there : at + after ≡ place = cc in
+    (after, subst (λ (j : ℕ). NoRecord j s after) same row, sym there)
 row-of at n place no-byte m = absurd (let z : _≡_ {A = ℕ} 0 1 = cc in omega arith)
 
 none-left : (at : ℕ) {s : List ℕ} {x : Met} → Recorded s x → placed at x ≡ end → s ≡ []
 none-left at (a-record s e c) m = absurd (let z : _≡_ {A = ℕ} 0 1 = cc in omega arith)
-none-left at (no-record k s row) m = absurd (let z : _≡_ {A = ℕ} 0 1 = cc in omega arith)
+none-left at (no-record k after s row) m = absurd (let z : _≡_ {A = ℕ} 0 1 = cc in omega arith)
 none-left at no-byte m = refl
 
 module _ (bytes : List ℕ) (bs : Bytes bytes) (at : ℕ) where
   here : Recorded (drop at bytes) (readRecord kinds (drop at bytes))
   here = recorded (drop at bytes) (bytes-drop bytes at bs)
 
-  row : (n place : ℕ) → ourRead bytes at ≡ refused n place → LogRow n bytes at × (place ≡ at)
+  row : (n place : ℕ) → ourRead bytes at ≡ refused n place → LogRow n bytes at place
   unfolding recordAt
-  row n place m = row-of at n place here m
+  row n place m = let k = row-of at n place here m in record { after = k .0; row = k .1; counts = k .2 }
 
-  given : (n place : ℕ) → LogRow n bytes at × (place ≡ at) → ourRead bytes at ≡ refused n place
+  given : (n place : ℕ) → LogRow n bytes at place → ourRead bytes at ≡ refused n place
   unfolding recordAt
-  given n place r = let there : at + 0 ≡ place = omega (arith, r .1) in ap (placed at) (refused-record (r .0)) ∙ ap (λ p. refused n p) there
+  given n place r = ap (placed at) (refused-record (r .row)) ∙ ap (λ p. refused n p) (sym (r .counts))
 
   at-end : ourRead bytes at ≡ end → length bytes ≤ at
   unfolding recordAt

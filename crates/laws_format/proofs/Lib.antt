@@ -4,6 +4,10 @@ pub mod NumbersRefused
 pub mod RecordsRefused
 pub mod Keeping
 pub mod Only
+mod NumbersDecided
+pub mod RecordsDecided
+pub mod RecordsBegun
+pub mod Deciding
 pub mod Logs
 pub mod Examples
 pub mod Refutes

@@ -20,13 +20,13 @@ use Rattle.laws_format.proofs.Formats.{groups-are}
 -- what stands at a list's start, of which k groups may follow the first, and what is read there
 data View (k : ℕ) : List ℕ → Found ℕ → Type 0 where
   a-number : (n : ℕ) (groups rest : List ℕ) → Groups n groups → n < limit k → View k (groups ++ rest) (found n (length groups))
-  short : (hs : List ℕ) → High hs → length hs ≤ k → View k hs (refused 1 0)
-  high : (hs rest : List ℕ) → High hs → length hs ≡ suc k → View k (hs ++ rest) (refused 3 0)
-  over : (n : ℕ) (groups rest : List ℕ) → Groups n groups → limit k ≤ n → View k (groups ++ rest) (refused 3 0)
-  zeros : (hs rest : List ℕ) → High hs → 0 < length hs → length hs ≤ k → View k (hs ++ 0 ∷ rest) (refused 2 0)
+  short : (hs : List ℕ) → High hs → length hs ≤ k → View k hs (refused 1 (length hs))
+  high : (hs rest : List ℕ) → High hs → length hs ≡ suc k → View k (hs ++ rest) (refused 3 k)
+  over : (n : ℕ) (groups rest : List ℕ) → Groups n groups → limit k ≤ n → length groups ≡ suc k → View k (groups ++ rest) (refused 3 k)
+  zeros : (hs rest : List ℕ) → High hs → 0 < length hs → length hs ≤ k → View k (hs ++ 0 ∷ rest) (refused 2 (length hs))
 
 -- one group more, with the high bit
-one-more : (b n : ℕ) (groups : List ℕ) → 128 ≤ b → b < 256 → 0 < n → Groups n groups → Groups (b - 128 + 128 * n) (b ∷ groups)
+pub one-more : (b n : ℕ) (groups : List ℕ) → 128 ≤ b → b < 256 → 0 < n → Groups n groups → Groups (b - 128 + 128 * n) (b ∷ groups)
 one-more b n groups lo hi p g =
     let byte : b - 128 + 128 ≡ b = omega arith in
     subst (λ (x : ℕ). Groups (b - 128 + 128 * n) (x ∷ groups)) byte (more (b - 128) n groups (omega arith) (omega arith) g)
@@ -45,7 +45,7 @@ behind-group k b lo hi (a-number n groups rest g small) = go (eqb n 0) refl
         (a-number (b - 128 + 128 * n) (b ∷ groups) rest (one-more b n groups lo hi (omega arith) g) (omega arith))
 behind-group k b lo hi (short hs h l) = short (b ∷ hs) (lo, h) (omega arith)
 behind-group k b lo hi (high hs rest h l) = high (b ∷ hs) rest (lo, h) (ap suc l)
-behind-group k b lo hi (over n groups rest g w) = over (b - 128 + 128 * n) (b ∷ groups) rest (one-more b n groups lo hi (omega (arith, limit-pos k)) g) (omega arith)
+behind-group k b lo hi (over n groups rest g w l) = over (b - 128 + 128 * n) (b ∷ groups) rest (one-more b n groups lo hi (omega (arith, limit-pos k)) g) (omega arith) (ap suc l)
 behind-group k b lo hi (zeros hs rest h p l) = zeros (b ∷ hs) rest (lo, h) (omega arith) (omega arith)
 
 view : (k : ℕ) (s : List ℕ) → Bytes s → View k s (readGroups k s)
@@ -56,7 +56,7 @@ view zero (b ∷ s) bs = go (ltb b fifthBelow) (ltb b 128) refl refl
   where
     go : (t u : Bool) → ltb b fifthBelow ≡ t → ltb b 128 ≡ u → View zero (b ∷ s) (pick t (found b 1) tooLarge)
     go true u e f = let h = ltb-true b fifthBelow e in a-number b (b ∷ []) s (last b (omega arith)) h
-    go false true e f = over b (b ∷ []) s (last b (ltb-true b 128 f)) (ltb-false b fifthBelow e)
+    go false true e f = over b (b ∷ []) s (last b (ltb-true b 128 f)) (ltb-false b fifthBelow e) refl
     go false false e f = high (b ∷ []) s (ltb-false b 128 f, tt) refl
 view (suc k) (b ∷ s) bs = go (ltb b 128) refl (view k s (λ i. bs (suc i)))
   where
@@ -67,55 +67,55 @@ view (suc k) (b ∷ s) bs = go (ltb b 128) refl (view k s (λ i. bs (suc i)))
 -- the same in the paper's words
 pub data Numbered : List ℕ → Found ℕ → Type 0 where
   value : (n : ℕ) (groups rest : List ℕ) → n ≤ largest → Groups n groups → Numbered (groups ++ rest) (found n (length groups))
-  no-number : (n p : ℕ) (s : List ℕ) → NoNumber n s → Numbered s (refused n p)
+  no-number : (n p : ℕ) (s : List ℕ) → NoNumber n s p → Numbered s (refused n p)
 
 told : {s : List ℕ} {x : Found ℕ} → View 4 s x → Numbered s x
 told (a-number n groups rest g small) = value n groups rest (omega arith) g
-told (short hs h l) = no-number 1 0 _ (cut-off hs h (omega arith))
-told (high hs rest h l) = no-number 3 0 _ (five-high hs rest h (omega arith))
-told (over n groups rest g w) = no-number 3 0 _ (too-large n groups rest g (omega arith))
-told (zeros hs rest h p l) = no-number 2 0 _ (zero-last hs rest h (omega arith) (omega arith))
+told (short hs h l) = no-number 1 _ _ (cut-off hs h (omega arith))
+told (high hs rest h l) = no-number 3 4 _ (five-high hs rest h (omega arith))
+told (over n groups rest g w l) = no-number 3 4 _ (too-large n groups rest g (omega arith) l)
+told (zeros hs rest h p l) = no-number 2 _ _ (zero-last hs rest h (omega arith) (omega arith))
 
 pub numbered : (s : List ℕ) → Bytes s → Numbered s (readNumber s)
 unfolding readNumber
 numbered s bs = told (view 4 s bs)
 
 -- ---- each row gives its number
-no-more : (k : ℕ) (hs : List ℕ) → High hs → length hs ≤ k → readGroups k hs ≡ refused 1 0
+no-more : (k : ℕ) (hs : List ℕ) → High hs → length hs ≤ k → readGroups k hs ≡ refused 1 (length hs)
 unfolding readGroups
 no-more zero [] h l = refl
 no-more (suc k) [] h l = refl
 no-more zero (b ∷ hs) h l = absurd (omega arith)
 no-more (suc k) (b ∷ hs) h l = simp (le-ltb b 128 (h .0), no-more k hs (h .1) (omega arith))
 
-all-high : (k : ℕ) (hs rest : List ℕ) → High hs → length hs ≡ suc k → readGroups k (hs ++ rest) ≡ refused 3 0
+all-high : (k : ℕ) (hs rest : List ℕ) → High hs → length hs ≡ suc k → readGroups k (hs ++ rest) ≡ refused 3 k
 unfolding readGroups
 all-high k [] rest h l = absurd (omega arith)
 all-high zero (b ∷ hs) rest h l = let big : 128 ≤ b = h .0 in simp (le-ltb b fifthBelow (omega arith))
 all-high (suc k) (b ∷ hs) rest h l = simp (le-ltb b 128 (h .0), all-high k hs rest (h .1) (omega arith))
 
-above : (k : ℕ) {n : ℕ} {groups : List ℕ} (rest : List ℕ) → Groups n groups → limit k ≤ n → readGroups k (groups ++ rest) ≡ refused 3 0
+above : (k : ℕ) {n : ℕ} {groups : List ℕ} (rest : List ℕ) → Groups n groups → limit k ≤ n → length groups ≡ suc k → readGroups k (groups ++ rest) ≡ refused 3 k
 unfolding readGroups
-above zero rest (last n h) w = simp (le-ltb n fifthBelow (omega arith))
-above zero rest (more low n groups h p g) w = simp (le-ltb (low + 128) fifthBelow (omega arith))
-above (suc k) rest (last n h) w = absurd (omega (arith, limit-pos k))
-above (suc k) rest (more low n groups h p g) w = simp (le-ltb (low + 128) 128 (omega arith), above k rest g (omega arith))
+above zero rest (last n h) w l = simp (le-ltb n fifthBelow (omega arith))
+above zero rest (more low n groups h p g) w l = simp (le-ltb (low + 128) fifthBelow (omega arith))
+above (suc k) rest (last n h) w l = absurd (omega (arith, limit-pos k))
+above (suc k) rest (more low n groups h p g) w l = simp (le-ltb (low + 128) 128 (omega arith), above k rest g (omega arith) (omega arith))
 
 zero-read : (k : ℕ) (rest : List ℕ) → readGroups k (0 ∷ rest) ≡ found 0 1
 unfolding readGroups
 zero-read zero rest = refl
 zero-read (suc k) rest = refl
 
-last-zero : (k : ℕ) (hs rest : List ℕ) → High hs → 0 < length hs → length hs ≤ k → readGroups k (hs ++ 0 ∷ rest) ≡ refused 2 0
+last-zero : (k : ℕ) (hs rest : List ℕ) → High hs → 0 < length hs → length hs ≤ k → readGroups k (hs ++ 0 ∷ rest) ≡ refused 2 (length hs)
 unfolding readGroups
 last-zero k [] rest h p l = absurd (omega arith)
 last-zero zero (b ∷ hs) rest h p l = absurd (omega arith)
 last-zero (suc k) (b ∷ []) rest h p l = simp (le-ltb b 128 (h .0), zero-read k rest)
 last-zero (suc k) (b ∷ c ∷ hs) rest h p l = simp (le-ltb b 128 (h .0), last-zero k (c ∷ hs) rest (h .1) (omega arith) (omega arith))
 
-pub refused-number : {n : ℕ} {s : List ℕ} → NoNumber n s → readNumber s ≡ refused n 0
+pub refused-number : {n p : ℕ} {s : List ℕ} → NoNumber n s p → readNumber s ≡ refused n p
 unfolding readNumber
 refused-number (cut-off hs h l) = no-more 4 hs h (omega arith)
 refused-number (five-high hs rest h l) = all-high 4 hs rest h (omega arith)
-refused-number (too-large n groups rest g w) = above 4 rest g (omega arith)
+refused-number (too-large n groups rest g w l) = above 4 rest g (omega arith) l
 refused-number (zero-last hs rest h p l) = last-zero 4 hs rest h (omega arith) (omega arith)

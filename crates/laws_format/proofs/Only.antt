@@ -40,7 +40,7 @@ stands read d bytes at e next k =
 -- and so is whatever the format says
 answer-is : (read : Reader) → Reads read → (bytes : List ℕ) → Bytes bytes → (at : ℕ) {x : Met} → AnswerAt bytes at x → read bytes at ≡ x
 answer-is read d bytes bs at (event e next k) = stands read d bytes at e next k
-answer-is read d bytes bs at (unreadable n row) = d .refuses bytes bs at n at .1 (row, refl)
+answer-is read d bytes bs at (unreadable n place row) = d .refuses bytes bs at n place .1 row
 answer-is read d bytes bs at (over late) = d .ends bytes bs at .1 late
 
 answered : (bytes : List ℕ) → Bytes bytes → (at : ℕ) → AnswerAt bytes at (ourRead bytes at)
@@ -48,7 +48,7 @@ answered bytes bs at = by (ourRead bytes at) refl
   where
     by : (x : Met) → ourRead bytes at ≡ x → AnswerAt bytes at x
     by (met e next) m = event e next (our-reads .only bytes bs at e next m)
-    by (refused n place) m = let k = our-reads .refuses bytes bs at n place .0 m in rw (k .1) (unreadable n (k .0))
+    by (refused n place) m = unreadable n place (our-reads .refuses bytes bs at n place .0 m)
     by end m = over (our-reads .ends bytes bs at .0 m)
 
 pub one-answer : OneAnswerAt

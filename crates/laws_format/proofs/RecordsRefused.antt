@@ -7,7 +7,7 @@ use mathlib.Core.Logic.{_≢_}
 use mathlib.Core.Option.{Option, some}
 use mathlib.Core.Option as option
 use native.Mathlib.Omega.{arith}
-use lib.ListN.{length, drop}
+use lib.ListN.{length, drop, length-append}
 use lib.Seq.{drop-append-seam}
 use lib.Dec.{eqb}
 use borrow.Author.Needs.{needs}
@@ -34,34 +34,36 @@ use Rattle.laws_format.proofs.NumbersRefused.{Numbered, value, no-numbe
 -- ---- numbers one after the other
 data Itemed (count : ℕ) : List ℕ → Found (List Item) → Type 0 where
   all : (s : List ℕ) (is : List Item) (d : ℕ) → Itemed count s (found is d)
-  stops : (n p : ℕ) (ns before left : List ℕ) → Numbers ns before → length ns < count → NoNumber n left → Itemed count (before ++ left) (refused n p)
+  stops : (n p q : ℕ) (ns before left : List ℕ) → Numbers ns before → length ns < count → NoNumber n left p → q ≡ length before + p → Itemed count (before ++ left) (refused n q)
 
 behind-one : (count n : ℕ) (groups : List ℕ) {rest : List ℕ} {x : Found (List Item)} → n ≤ largest → Groups n groups → Itemed count rest x
     → Itemed (suc count) (groups ++ rest) (behind (num n) (moved (length groups) x))
 behind-one count n groups h g (all s is d) = all _ _ _
-behind-one count n groups h g (stops m p ns before left so l bad) =
-    rw (← append-assoc groups before left) (stops m (length groups + p) (n ∷ ns) (groups ++ before) left (one n ns groups before h g so) (omega arith) bad)
+behind-one count n groups h g (stops m p q ns before left so l bad e) =
+    rw (← append-assoc groups before left)
+    (stops m p (length groups + q) (n ∷ ns) (groups ++ before) left (one n ns groups before h g so) (omega arith) bad (omega (arith, length-append groups before)))
 
 item-more : (hs : List Shape) {s : List ℕ} {x : Found ℕ} → Numbered s x → Bytes s → ((t : List ℕ) → Bytes t → Itemed (length hs) t (readItems hs t))
     → Itemed (suc (length hs)) s (andThen (asNum x) (λ d. readItems hs (drop d s)))
 item-more hs (value n groups rest h g) bs ih =
     rw (drop-append-seam groups rest)
     (behind-one (length hs) n groups h g (ih rest (subst Bytes (drop-append-seam groups rest) (bytes-drop (groups ++ rest) (length groups) bs))))
-item-more hs (no-number n p s bad) bs ih = stops n p [] [] s none (omega arith) bad
+item-more hs (no-number n p s bad) bs ih = stops n p p [] [] s none (omega arith) bad (omega arith)
 
 itemed : (hs : List Shape) (s : List ℕ) → Bytes s → Itemed (length hs) s (readItems hs s)
 unfolding readItems
 itemed [] s bs = all s [] 0
 itemed (number ∷ hs) s bs = item-more hs (numbered s bs) bs (itemed hs)
 
-stopped-at : (hs : List Shape) {n : ℕ} {ns before : List ℕ} (left : List ℕ) → Numbers ns before → length ns < length hs → NoNumber n left
-    → (p : ℕ) × (readItems hs (before ++ left) ≡ refused n p)
+stopped-at : (hs : List Shape) {n p : ℕ} {ns before : List ℕ} (left : List ℕ) → Numbers ns before → length ns < length hs → NoNumber n left p
+    → (q : ℕ) → q ≡ length before + p → readItems hs (before ++ left) ≡ refused n q
 unfolding readItems
-stopped-at [] left so l bad = absurd (omega arith)
-stopped-at (number ∷ hs) left none l bad = (0, simp (refused-number bad))
-stopped-at (number ∷ hs) left (one m ns groups rest h g so) l bad =
-    let k = stopped-at hs left so (omega arith) bad in
-    (length groups + k .0, simp (append-assoc, number-read m groups (rest ++ left) h g, drop-append-seam, k .1))
+stopped-at [] left so l bad q e = absurd (omega arith)
+stopped-at (number ∷ hs) {p = p} left none l bad q e = let same : p ≡ q = omega arith in simp (refused-number bad, same)
+stopped-at (number ∷ hs) {p = p} left (one m ns groups rest h g so) l bad q e =
+    let k = stopped-at hs left so (omega arith) bad (length rest + p) refl in
+    let same : length groups + (length rest + p) ≡ q = omega (arith, length-append groups rest) in
+    simp (append-assoc, number-read m groups (rest ++ left) h g, drop-append-seam, k, same)
 
 -- ---- the table: its bytes are 1 to 7, each kind has an event, and an event has its kind's count of numbers
 abbrev Known : KindRow → Type 0
@@ -108,13 +110,13 @@ an-event k = let is = nothings (shapesOf k) in (eventOf k (values is), every-kin
 -- ---- a record
 pub data Recorded : List ℕ → Met → Type 0 where
   a-record : (s : List ℕ) (e : Event) (c : ℕ) → Recorded s (log.met e c)
-  no-record : (n : ℕ) (s : List ℕ) → NoRecord n s → Recorded s (log.refused n 0)
+  no-record : (n p : ℕ) (s : List ℕ) → NoRecord n s p → Recorded s (log.refused n p)
   no-byte : Recorded [] log.end
 
 of-event : (e : Event) {s : List ℕ} {x : Found (List Item)} → Itemed (length (shapesOf (kindOf e))) s x → Recorded (kindByte (kindOf e) ∷ s) (ofKind (kindOf e) x)
 of-event e (all s is d) = a-record _ _ _
-of-event e (stops n p ns before left so l bad) =
-    no-record n _ (stopped n (kindByte (kindOf e)) e (values (itemsOf e)) ns before left (listed e) so (omega (arith, count-of e)) bad)
+of-event e (stops n p q ns before left so l bad there) =
+    rw there (no-record n _ _ (stopped n (kindByte (kindOf e)) p e (values (itemsOf e)) ns before left (listed e) so (omega (arith, count-of e)) bad))
 
 of-kind : (k : Kind) (s : List ℕ) → Bytes s → Recorded (kindByte k ∷ s) (ofKind k (readItems (shapesOf k) s))
 of-kind k s bs =
@@ -122,7 +124,7 @@ of-kind k s bs =
     subst (λ (j : Kind). Recorded (kindByte j ∷ s) (ofKind j (readItems (shapesOf j) s))) (a .1) (of-event (a .0) (itemed (shapesOf (kindOf (a .0))) s bs))
 
 of-row : (b : ℕ) (s : List ℕ) → Bytes s → (x : Option KindRow) → rowFor kinds b ≡ x → Recorded (b ∷ s) (ofRow x s)
-of-row b s bs option.none e = no-record 4 _ (no-kind b s (none-between b (missed kinds b e)))
+of-row b s bs option.none e = no-record 4 0 _ (no-kind b s (none-between b (missed kinds b e)))
 of-row b s bs (some r) e =
     let own = own-row b r e in
     let is : kindRow (r .kind) ≡ r = sym (own .0) in
@@ -135,11 +137,11 @@ unfolding readRecord
 recorded [] bs = no-byte
 recorded (b ∷ s) bs = of-row b s (λ i. bs (suc i)) (rowFor kinds b) refl
 
-pub refused-record : {n : ℕ} {s : List ℕ} → NoRecord n s → readRecord kinds s ≡ log.refused n 0
+pub refused-record : {n p : ℕ} {s : List ℕ} → NoRecord n s p → readRecord kinds s ≡ log.refused n p
 unfolding readRecord
 refused-record (no-kind b rest out) = simp (no-row b out)
-refused-record (stopped n kind e every ns before left l so few bad) =
+refused-record (stopped n kind place e every ns before left l so few bad) =
     let i = listed-is l in
     let long : length every ≡ length (shapesOf (kindOf e)) = ap length (sym (values-nums every)) ∙ ap (λ is. length (values is)) (i .1) ∙ sym (count-of e) in
-    let k = stopped-at (shapesOf (kindOf e)) left so (omega arith) bad in
-    simp (i .0, row-of-its-own (kindOf e), k .1)
+    let k = stopped-at (shapesOf (kindOf e)) left so (omega arith) bad (length before + place) refl in
+    simp (i .0, row-of-its-own (kindOf e), k)

@@ -3,5 +3,6 @@ pub mod Format
 pub mod Unreadable
 pub mod Readers
 pub mod Ours
+pub mod Deciding
 pub mod Wrong
 pub mod Rows

@@ -36,7 +36,7 @@ OnlyWriter = (write : Writer) → Writes write → (e : Event) (spelling : List 
 -- what the format says of a place of a log: an event's record, a refusal's row, or the end
 pub data AnswerAt (bytes : List ℕ) (at : ℕ) : Met → Type 0 where
   event : (e : Event) (next : ℕ) → SpelledAt bytes at e next → AnswerAt bytes at (met e next)
-  unreadable : (n : ℕ) → LogRow n bytes at → AnswerAt bytes at (refused n at)
+  unreadable : (n place : ℕ) → LogRow n bytes at place → AnswerAt bytes at (refused n place)
   over : length bytes ≤ at → AnswerAt bytes at end
 
 -- at every place of every byte string it says one thing

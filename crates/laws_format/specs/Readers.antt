@@ -34,8 +34,8 @@ pub record Reads (read : Reader) : Type 0 where
       → read (before ++ (spelling ++ rest)) (length before) ≡ met e (length before + length spelling)
   -- what reads as an event is its spelling
   pub only : (bytes : List ℕ) → Bytes bytes → (at : ℕ) (e : Event) (next : ℕ) → read bytes at ≡ met e next → SpelledAt bytes at e next
-  -- "No | Given exactly when", 1 to 4, and "The place is the record's start."
-  pub refuses : (bytes : List ℕ) → Bytes bytes → (at n place : ℕ) → (read bytes at ≡ refused n place) ↔ (LogRow n bytes at × (place ≡ at))
+  -- "No | Given exactly when", 1 to 4, and the place of each
+  pub refuses : (bytes : List ℕ) → Bytes bytes → (at n place : ℕ) → (read bytes at ≡ refused n place) ↔ LogRow n bytes at place
   -- the end, exactly from the log's end on
   pub ends : (bytes : List ℕ) → Bytes bytes → (at : ℕ) → (read bytes at ≡ end) ↔ (length bytes ≤ at)
 

@@ -16,19 +16,19 @@ pub record PaperBytes : Type 0 where
   -- "IBAT -1 logs 01"
   pub minusOne : Ibat (negsuc 0) 0x01
   -- "number `80 00` is 2"
-  pub zeroGroup : NoNumber 2 (0x80 ∷ 0x00 ∷ [])
+  pub zeroGroup : NoNumber 2 (0x80 ∷ 0x00 ∷ []) 1
   -- "number by number": `02 80 00` is 2, not 1
-  pub numberByNumber : NoRecord 2 (0x02 ∷ 0x80 ∷ 0x00 ∷ [])
+  pub numberByNumber : NoRecord 2 (0x02 ∷ 0x80 ∷ 0x00 ∷ []) 2
   -- "4,294,967,295" is the largest, and one more is 3
   pub theLargest : Groups 4294967295 (0xFF ∷ 0xFF ∷ 0xFF ∷ 0xFF ∷ 0x0F ∷ [])
-  pub oneMore : NoNumber 3 (0x80 ∷ 0x80 ∷ 0x80 ∷ 0x80 ∷ 0x10 ∷ [])
+  pub oneMore : NoNumber 3 (0x80 ∷ 0x80 ∷ 0x80 ∷ 0x80 ∷ 0x10 ∷ []) 4
   -- "five high-bit groups are 3 even at the log's end"; four there are 1, and four before a zero are 2
-  pub fiveHigh : NoNumber 3 (0x80 ∷ 0x80 ∷ 0x80 ∷ 0x80 ∷ 0x80 ∷ [])
-  pub fourHigh : NoNumber 1 (0xFF ∷ 0xFF ∷ 0xFF ∷ 0xFF ∷ [])
-  pub fourAndZero : NoNumber 2 (0x80 ∷ 0x80 ∷ 0x80 ∷ 0x80 ∷ 0x00 ∷ [])
+  pub fiveHigh : NoNumber 3 (0x80 ∷ 0x80 ∷ 0x80 ∷ 0x80 ∷ 0x80 ∷ []) 4
+  pub fourHigh : NoNumber 1 (0xFF ∷ 0xFF ∷ 0xFF ∷ 0xFF ∷ []) 4
+  pub fourAndZero : NoNumber 2 (0x80 ∷ 0x80 ∷ 0x80 ∷ 0x80 ∷ 0x00 ∷ []) 4
   -- "kind not 1-7"
-  pub kindZero : NoRecord 4 (0x00 ∷ [])
-  pub kindEight : NoRecord 4 (0x08 ∷ [])
+  pub kindZero : NoRecord 4 (0x00 ∷ []) 0
+  pub kindEight : NoRecord 4 (0x08 ∷ []) 0
   -- a record of each other kind: setting 1 to 8,400, byte 0x42 to address 0x1B, and those with no numbers
   pub set : Spells (Set 1 8400) (0x02 ∷ 0x01 ∷ 0xD0 ∷ 0x41 ∷ [])
   pub write : Spells (Write 0x1B 0x42) (0x03 ∷ 0x1B ∷ 0x42 ∷ [])

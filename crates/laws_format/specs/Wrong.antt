@@ -8,6 +8,7 @@ use Rattle.log_event.specs.declared.Event.the-variants.{PowerOn, Set, Write, Ta
 use Rattle.log_record.specs.Records.{Met, met, refused, end}
 use Rattle.laws_format.specs.Readers.{Reader, Writer, Reads, Writes}
 use Rattle.laws_format.specs.Ours.{ourRead, ourWrite}
+use Rattle.laws_format.specs.Deciding.{PlacesDecide}
 
 -- another byte code: a service is 07 and a reset 06
 abbrev pub swapped : Event → Event
@@ -50,9 +51,27 @@ threeForTwo n = pick (eqb n 2) 3 (pick (eqb n 3) 2 n)
 abbrev pub swapsTwoAndThree : Reader
 swapsTwoAndThree bytes at = changed (λ e. e) threeForTwo (ourRead bytes at)
 
+-- tells the record's start for what is refused with one number, and this product's place for all else
+abbrev pub startFor : ℕ → ℕ → Met → Met
+startFor number at (met e next) = met e next
+startFor number at (refused n place) = refused n (pick (eqb n number) at place)
+startFor number at end = end
+
+abbrev pub tellsStart : ℕ → Reader
+tellsStart number bytes at = startFor number at (ourRead bytes at)
+
+-- of 1, 2 and 3 the record's start isn't what decided it
+pub record StartRefuted : Type 0 where
+  pub one : ¬ PlacesDecide (tellsStart 1)
+  pub two : ¬ PlacesDecide (tellsStart 2)
+  pub three : ¬ PlacesDecide (tellsStart 3)
+
 pub record FormatRefuted : Type 0 where
   pub otherCode : ¬ Reads readsSwapped
   pub otherCodeWritten : ¬ Writes writesSwapped
   pub firstAlone : ¬ Reads readsFirst
   pub oneForAll : ¬ Reads refusesWithOne
   pub twoAndThree : ¬ Reads swapsTwoAndThree
+  pub oneAtStart : ¬ Reads (tellsStart 1)
+  pub twoAtStart : ¬ Reads (tellsStart 2)
+  pub threeAtStart : ¬ Reads (tellsStart 3)

@@ -10,13 +10,10 @@ use lib.Dec.{eqb}
 use lib.ListN.{length}
 use borrow.Author.Tests.{eqb-true, eqb-false}
 use Rattle.log_number.specs.Promises.{Bytes}
-use Rattle.log_event.specs.Items.{number, shapes, numbers, nums, values}
+use Rattle.log_event.specs.Items.{numbers}
 use Rattle.log_event.specs.Kinds.{kindByte, shapesOf, KindRow, kinds, rowFor}
-use Rattle.log_event.specs.Events.{kindOf, eventOf}
 use Rattle.log_event.specs.declared.Event.{Event}
-use Rattle.log_event.specs.declared.kinds.Kind.{Kind}
 use Rattle.log_event.proofs.Table.{own-row}
-use Rattle.log_event.proofs.Remaking.{values-nums, all-numbers, every-kind}
 use Rattle.log_record.specs.Records.{Met}
 use Rattle.c_words.specs.Words.{wordBytes, bytesOf, wordAt, wordsIn}
 use Rattle.c_words.specs.Promises.{AllWords}
@@ -24,10 +21,10 @@ use Rattle.c_words.proofs.WordLaws.{length-words}
 use Rattle.laws_images.proofs.Loading.{all-words}
 use Rattle.laws_format.specs.Format.{Listed, AllSmall}
 use Rattle.laws_format.specs.Ours.{AnswerAt, event, unreadable, over}
-use Rattle.laws_format.proofs.Formats.{listed}
 use Rattle.laws_format.proofs.RecordsRefused.{missed, none-between}
+use Rattle.laws_format.proofs.RecordsBegun.{event-with}
 use Rattle.laws_format.proofs.Only.{ahead, one-answer}
-use Rattle.laws_heads.specs.Given.{shownBytes, EventGives, given, no-room, no-kind, not-as-many, at-end, PlayGives, played, no-room-shown, no-record, ReplayGives, stops, goes-on, OneList, EveryInputGives}
+use Rattle.laws_heads.specs.Given.{shownBytes, EventGives, given, no-room, no-kind, not-as-many, at-end, PlayGives, played, no-room-shown, no-record, Ending, ReplayGives, stops, goes-on, OneList, EveryInputGives}
 use Rattle.laws_heads.specs.Given as gives
 use Rattle.laws_heads.proofs.Givens.{event-is, play-is, all-read}
 
@@ -59,17 +56,6 @@ small : (ns : List ℕ) → AllWords ns → AllSmall ns
 small [] h = tt
 small (n ∷ ns) h = (omega (arith, h .0), small ns (h .1))
 
-shapes-nums : (ns : List ℕ) → shapes (nums ns) ≡ numbers (length ns)
-shapes-nums [] = refl
-shapes-nums (n ∷ ns) = ap (λ l. number ∷ l) (shapes-nums ns)
-
--- as many words as a kind has numbers make an event of it
-of-kind : (k : Kind) (ns : List ℕ) → length ns ≡ length (shapesOf k) → (e : Event) × Listed e (kindByte k) ns
-of-kind k ns long =
-    let made = every-kind k (nums ns) (shapes-nums ns ∙ ap numbers long ∙ all-numbers (shapesOf k)) in
-    let e = eventOf k (values (nums ns)) in
-    (e, subst (λ j. Listed e (kindByte j) ns) (made .kind) (subst (λ l. Listed e (kindByte (kindOf e)) l) (ap values (made .items) ∙ values-nums ns) (listed e)))
-
 module _ (kind : ℕ) (words : List ℕ) (bs : Bytes words) (room : ℕ) (fits : shownBytes ≤ room) where
   as-many : (e : Event) (ns : List ℕ) → Listed e kind ns → AllSmall ns → (length words ≡ length ns * 4 → words ≡ bytesOf ns) → (t : Bool)
       → eqb (length words) (length ns * 4) ≡ t → (new : List Event) × EventGives kind words room new
@@ -83,7 +69,7 @@ module _ (kind : ℕ) (words : List ℕ) (bs : Bytes words) (room : ℕ) (fits :
       let count = length (shapesOf (r .kind)) in
       let ns = wordsIn count words in
       let long : length ns ≡ count = length-words count words in
-      let made = of-kind (r .kind) ns long in
+      let made = event-with (r .kind) ns long in
       let byte : kindByte (r .kind) ≡ kind = ap (λ (q : KindRow). q .byte) (sym (own .0)) ∙ own .1 in
       as-many (made .0) ns (subst (λ b. Listed (made .0) b ns) byte (made .1)) (small ns (all-words count words bs))
       (λ h. sym (bytes-back count words bs (h ∙ ap (λ n. n * 4) long))) (eqb (length words) (length ns * 4)) refl
@@ -103,17 +89,20 @@ module _ (log : List ℕ) (bs : Bytes log) where
       go : {x : Met} → Dec (room < shownBytes) → AnswerAt log place x → (new : List Event) × PlayGives log place room new
       go (yes short) a = ([], no-room-shown short)
       go (no enough) (event e next k) = (e ∷ [], played e next k (omega arith))
-      go (no enough) (unreadable n row) = ([], no-record (gives.unreadable n row))
-      go (no enough) (over late) = ([], no-record (at-end late))
+      go (no enough) (unreadable n decided row) = ([], no-record n decided (gives.unreadable n decided row))
+      go (no enough) (over late) = ([], no-record 0 place (at-end late))
 
-  some-replay : (most place : ℕ) → length log ≤ place + most → (new : List Event) × ReplayGives log place new
-  some-replay zero place h = ([], stops place (at-end (omega arith)))
+  abbrev Given : ℕ → List Event → Type 0
+  Given place new = (ending : Ending) × ReplayGives log place new ending
+
+  some-replay : (most place : ℕ) → length log ≤ place + most → (new : List Event) × Given place new
+  some-replay zero place h = ([], (_, stops place 0 place (at-end (omega arith))))
   some-replay (suc most) place h = go (one-answer .some log bs place .1) (some-replay most)
     where
-      go : {x : Met} → AnswerAt log place x → ((next : ℕ) → length log ≤ next + most → (new : List Event) × ReplayGives log next new) → (new : List Event) × ReplayGives log place new
-      go (event e next k) more = let rest = more next (omega (arith, ahead k, h)) in (e ∷ rest .0, goes-on place e next (rest .0) k (rest .1))
-      go (unreadable n row) more = ([], stops place (gives.unreadable n row))
-      go (over late) more = ([], stops place (at-end late))
+      go : {x : Met} → AnswerAt log place x → ((next : ℕ) → length log ≤ next + most → (new : List Event) × Given next new) → (new : List Event) × Given place new
+      go (event e next k) more = let rest = more next (omega (arith, ahead k, h)) in (e ∷ rest .0, (rest .1 .0, goes-on place e next (rest .0) (rest .1 .0) k (rest .1 .1)))
+      go (unreadable n decided row) more = ([], (_, stops place n decided (gives.unreadable n decided row)))
+      go (over late) more = ([], (_, stops place 0 place (at-end late)))
 
 -- two lists that are one thing are one
 alone : {gives : List Event → Type 0} {is : List Event} → ((new : List Event) → gives new → new ≡ is) → (new : List Event) × gives new → OneList gives
@@ -123,5 +112,5 @@ pub every-input-gives : EveryInputGives
 every-input-gives = record {
   event = λ kind words bs room. alone (λ new g. event-is kind words room g) (some-event kind words bs room);
   play = λ log bs place room. alone (λ new g. play-is bs place room g) (some-play log bs place room);
-  replay = λ log bs place. alone (λ new g. sym (all-read bs g)) (some-replay log bs (length log) place (omega arith));
+  replay = λ log bs place. alone (λ new g. sym (all-read bs (g .1))) (some-replay log bs (length log) place (omega arith));
 }

@@ -29,7 +29,7 @@ use Rattle.laws_format.proofs.Formats.{listed-is}
 use Rattle.laws_format.proofs.RecordsRefused.{no-row, count-of}
 use Rattle.laws_format.proofs.Keeping.{our-reads}
 use Rattle.laws_format.proofs.Only.{ahead, stands}
-use Rattle.laws_heads.specs.Given.{shownBytes, EventGives, given, no-room, no-kind, not-as-many, NoRecordAt, unreadable, at-end, PlayGives, played, no-room-shown, no-record, ReplayGives, stops, goes-on}
+use Rattle.laws_heads.specs.Given.{shownBytes, EventGives, given, no-room, no-kind, not-as-many, NoRecordAt, unreadable, at-end, PlayGives, played, no-room-shown, no-record, Ending, ReplayGives, stops, goes-on}
 
 -- ---- an event outside a log
 small-fits : (ns : List ℕ) → AllSmall ns → AllFit (nums ns)
@@ -75,26 +75,26 @@ met-there {log} {place} {e} {next} k = stands ourRead our-reads log place e next
 abbrev pub readList : log.Met → List Event
 readList r = eventBy r (λ next. [])
 
-none-there : {log : List ℕ} {place : ℕ} → Bytes log → NoRecordAt log place → (more : ℕ → List Event) → eventBy (recordAt kinds log place) more ≡ []
-none-there {log} {place} bs (unreadable n row) more = rw (our-reads .refuses log bs place n place .1 (row, refl))
+none-there : {log : List ℕ} {place number told : ℕ} → Bytes log → NoRecordAt log place number told → (more : ℕ → List Event) → eventBy (recordAt kinds log place) more ≡ []
+none-there {log} {place} bs (unreadable n decided row) more = rw (our-reads .refuses log bs place n decided .1 row)
 none-there {log} {place} bs (at-end late) more = rw (our-reads .ends log bs place .1 late)
 
 pub play-is : {log : List ℕ} → Bytes log → (place room : ℕ) {new : List Event} → PlayGives log place room new → new ≡ pick (ltb room shownBytes) [] (readList (recordAt kinds log place))
 play-is bs place room (played e next k fits) = rw (met-there k, le-ltb room shownBytes fits)
 play-is bs place room (no-room-shown short) = rw (lt-ltb room shownBytes short)
-play-is bs place room (no-record stop) = rw (none-there bs stop (λ next. []), same-none (ltb room shownBytes))
+play-is bs place room (no-record number told stop) = rw (none-there bs stop (λ next. []), same-none (ltb room shownBytes))
 
 -- no more records than bytes are left
-few : {log : List ℕ} {place : ℕ} {es : List Event} → ReplayGives log place es → length es ≤ length log - place
-few (stops place h) = omega arith
-few (goes-on place e next es k more) = omega (arith, ahead k, few more)
+pub few : {log : List ℕ} {place : ℕ} {es : List Event} {ending : Ending} → ReplayGives log place es ending → length es ≤ length log - place
+few (stops place code told h) = omega arith
+few (goes-on place e next es ending k more) = omega (arith, ahead k, few more)
 
-events-are : {log : List ℕ} → Bytes log → {place : ℕ} {es : List Event} (most : ℕ) → ReplayGives log place es → length es ≤ most → eventsOf most log place ≡ es
+events-are : {log : List ℕ} → Bytes log → {place : ℕ} {es : List Event} {ending : Ending} (most : ℕ) → ReplayGives log place es ending → length es ≤ most → eventsOf most log place ≡ es
 unfolding eventsOf
-events-are {log} bs zero (stops place h) l = refl
-events-are {log} bs (suc most) (stops place h) l = none-there bs h (λ next. eventsOf most log next)
-events-are {log} bs zero (goes-on place e next es k more) l = absurd (omega arith)
-events-are {log} bs (suc most) (goes-on place e next es k more) l = rw (met-there k) (ap (λ fs. e ∷ fs) (events-are bs most more (omega arith)))
+events-are {log} bs zero (stops place code told h) l = refl
+events-are {log} bs (suc most) (stops place code told h) l = none-there bs h (λ next. eventsOf most log next)
+events-are {log} bs zero (goes-on place e next es ending k more) l = absurd (omega arith)
+events-are {log} bs (suc most) (goes-on place e next es ending k more) l = rw (met-there k) (ap (λ fs. e ∷ fs) (events-are bs most more (omega arith)))
 
-pub all-read : {log : List ℕ} → Bytes log → {place : ℕ} {es : List Event} → ReplayGives log place es → eventsOf (suc (length log)) log place ≡ es
+pub all-read : {log : List ℕ} → Bytes log → {place : ℕ} {es : List Event} {ending : Ending} → ReplayGives log place es ending → eventsOf (suc (length log)) log place ≡ es
 all-read {log} bs h = events-are bs (suc (length log)) h (omega (arith, few h))

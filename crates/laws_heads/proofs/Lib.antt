@@ -1,6 +1,8 @@
 -- The laws of the crate `laws_heads`.
-mod Givens
+pub mod Givens
 pub mod Every
+pub mod Replaying
+pub mod Growing
 pub mod Loads
 pub mod Third
 pub mod Second

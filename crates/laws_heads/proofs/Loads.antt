@@ -66,6 +66,6 @@ loads (event es image v kind words bs shown new g) =
 loads (play es image v log bs place shown new g) =
     keeps-image .play image _ (loads v) log bs place shown
     ∙ ap accepted (by-read (pastOf none es) (lawful es) (ltb (length shown) 28) (recordAt kinds log place) ∙ ap modelOf (joined es (play-is bs place (length shown) g)))
-loads (replay es image v log bs place new g) =
+loads (replay es image v log bs place new ending g) =
     keeps-image .replay image _ (loads v) log bs place
     ∙ ap accepted (follows _ log (walkFrom _ place) (pastOf none es) (lawful es) refl ∙ ap modelOf (joined es (sym (all-read bs g))))

@@ -1,14 +1,19 @@
 -- Each wrong call breaks what is asked.
-use Prim.Native.Nat.{ℕ, zero, suc, _<_}
+use Prim.Native.Nat.{ℕ}
 use mathlib.Core.Path.{_≡_, refl, sym, ap, _∙_, subst}
 use mathlib.Core.List.{List, [], _∷_}
 use native.Mathlib.Omega.{arith}
+use lib.IntN.{pos}
 use lib.ListN.{getD}
 use borrow.Author.Needs.{needs}
 use Rattle.log_number.specs.Promises.{Bytes}
+use Rattle.log_number.specs.Number.{spell, groups}
+use Rattle.log_number.proofs.Strings.{bytes-each}
 use Rattle.state_parts.specs.declared.state.Model.the-variants.{Off}
 use Rattle.log_event.specs.declared.Event.{Event}
-use Rattle.log_event.specs.declared.Event.the-variants.{PowerOn}
+use Rattle.log_event.specs.declared.Event.the-variants.{PowerOn, Set, Observe}
+use Rattle.log_record.specs.Items.{spellItems}
+use Rattle.log_record.specs.Records.{spellEvent}
 use Rattle.log_record.specs.Logs.{spellLog}
 use Rattle.step_turns.specs.Ranges.{profileInRange}
 use Rattle.step_turns.specs.Turns.{turnOf}
@@ -16,17 +21,26 @@ use Rattle.c_image.specs.Images.{zeros, imageOf}
 use Rattle.c_image.proofs.ImageLaws.{loads-back}
 use Rattle.c_calls.specs.Landing.{Left, Both, both, answered, readyOf}
 use Rattle.c_calls.specs.Playing.{eventCallOf}
+use Rattle.c_calls.specs.Replaying.{replayOf}
 use Rattle.c_calls.specs.Promises.{Calls, RefusalLeaves}
 use Rattle.c_calls.specs.declared.answer.Answer.{Answer}
+use Rattle.c_calls.specs.declared.answer.Replayed.{Replayed}
+use Rattle.laws_format.specs.Format.{last, none as none-more, one, from-zero}
+use Rattle.laws_format.specs.Format as format
+use Rattle.laws_format.specs.Unreadable.{cut-off, stopped}
 use Rattle.laws_format.specs.Readers.{SpelledAt}
+use Rattle.laws_format.proofs.Formats.{spelled}
 use Rattle.laws_format.proofs.Examples.{paper-bytes}
 use Rattle.laws_account.specs.History.{Run}
+use Rattle.laws_third.specs.Demand.{ranBy}
 use Rattle.laws_account.specs.Refused.{none, some, nextOf, pastOf}
-use Rattle.laws_heads.specs.Given.{at-end, played, ReplayGives, stops, goes-on}
+use Rattle.laws_heads.specs.Given.{unreadable, at-end, played, Ending, ReplayGives, stops, goes-on}
 use Rattle.laws_heads.specs.Moved.{Moved, off, play, replay}
 use Rattle.laws_heads.specs.Third.{ThirdOfImages}
-use Rattle.laws_heads.specs.Wrong.{butLast, replaysButLast, playsUnstored, zeroed, zeroesWhenRefused, HeadsRefuted}
+use Rattle.laws_heads.specs.Growing.{CatchesUp}
+use Rattle.laws_heads.specs.Wrong.{butLast, replaysButLast, playsUnstored, zeroed, zeroesWhenRefused, goesOnAtByte, HeadsRefuted}
 use Rattle.laws_heads.proofs.Givens.{all-read}
+use Rattle.laws_heads.proofs.Replaying.{replay-is}
 
 -- the paper's power-on, and a log of it alone
 abbrev power : Event
@@ -35,17 +49,8 @@ power = PowerOn (record { cell = 2; vchg = 5; ichg = 4; ohms = 0; stamp = 0; cei
 abbrev first : List ℕ
 first = 0x01 ∷ 0x02 ∷ 0x05 ∷ 0x04 ∷ 0x00 ∷ 0x00 ∷ 0x94 ∷ 0x23 ∷ 0x90 ∷ 0x1C ∷ 0xA0 ∷ 0x38 ∷ 0xA0 ∷ 0x99 ∷ 0x02 ∷ 0x00 ∷ []
 
-abbrev Low : List ℕ → Type 0
-Low [] = Unit {0}
-Low (b ∷ s) = (b < 256) × Low s
-
-low-bytes : (s : List ℕ) → Low s → Bytes s
-low-bytes [] h i = omega arith
-low-bytes (b ∷ s) h zero = h .0
-low-bytes (b ∷ s) h (suc i) = low-bytes s (h .1) i
-
 bytes-there : Bytes first
-bytes-there = low-bytes first (search needs)
+bytes-there = bytes-each first (search needs)
 
 stands-there : SpelledAt first 0 power 16
 stands-there = record { spelling = first; spells = paper-bytes .powerOn; long = refl; start = refl }
@@ -77,18 +82,21 @@ module _ (calls : Calls) where
       clash (playsUnstored calls) third start (off (zeros 216) refl)
       (play [] start (off (zeros 216) refl) first bytes-there 0 (zeros 28) (power ∷ []) (played power 16 stands-there (omega arith)))
 
-  one-record : ReplayGives first 0 (power ∷ [])
-  one-record = goes-on 0 power 16 [] stands-there (stops 16 (at-end (omega arith)))
+  abbrev at : ℕ → Ending
+  at place = record { code = 0; told = place; next = place }
 
-  no-record : ReplayGives [] 0 []
-  no-record = stops 0 (at-end (omega arith))
+  one-record : ReplayGives first 0 (power ∷ []) (at 16)
+  one-record = goes-on 0 power 16 [] (at 16) stands-there (stops 16 0 16 (at-end (omega arith)))
+
+  no-record : ReplayGives [] 0 [] (at 0)
+  no-record = stops 0 0 0 (at-end (omega arith))
 
   -- with or without its one record the log is replayed as an empty one
-  cut : (log : List ℕ) (es : List Event) → Bytes log → ReplayGives log 0 es → butLast es ≡ [] → replaysButLast calls .replay start log 0 .bytes ≡ calls .replay start (spellLog []) 0 .bytes
+  cut : (log : List ℕ) (es : List Event) {ending : Ending} → Bytes log → ReplayGives log 0 es ending → butLast es ≡ [] → replaysButLast calls .replay start log 0 .bytes ≡ calls .replay start (spellLog []) 0 .bytes
   cut log es bs g e = ap (λ fs. calls .replay start (spellLog (butLast fs)) 0 .bytes) (all-read bs g) ∙ ap (λ fs. calls .replay start (spellLog fs) 0 .bytes) e
 
-  moved-by : (log : List ℕ) (es : List Event) → Bytes log → ReplayGives log 0 es → butLast es ≡ [] → Moved (replaysButLast calls) es (calls .replay start (spellLog []) 0 .bytes)
-  moved-by log es bs g e = subst (λ image. Moved (replaysButLast calls) es image) (cut log es bs g e) (replay [] start (off (zeros 216) refl) log bs 0 es g)
+  moved-by : (log : List ℕ) (es : List Event) {ending : Ending} → Bytes log → ReplayGives log 0 es ending → butLast es ≡ [] → Moved (replaysButLast calls) es (calls .replay start (spellLog []) 0 .bytes)
+  moved-by log es bs g e = subst (λ image. Moved (replaysButLast calls) es image) (cut log es bs g e) (replay [] start (off (zeros 216) refl) log bs 0 es _ g)
 
   lost : ¬ ThirdOfImages (replaysButLast calls)
   lost third =
@@ -109,5 +117,45 @@ spills calls leaves =
     let z : _≡_ {A = ℕ} 0 1 = ap (λ s. getD s 0 0) (sym (ap (λ (l : Both Answer). l .shown) zeroed-there) ∙ kept) in
     omega arith
 
+-- ---- the log 02 01, of a set whose value is still to come, and then 05
+abbrev short : List ℕ
+short = 0x02 ∷ 0x01 ∷ []
+
+abbrev whole : List ℕ
+whole = 0x02 ∷ 0x01 ∷ 0x05 ∷ []
+
+cut-short : ReplayGives short 0 [] (record { code = 1; told = 2; next = 0 })
+cut-short = stops 0 1 2 (unreadable 1 2 (record {
+  after = 2;
+  row = stopped 1 2 0 (Set 0 0) _ (1 ∷ []) (0x01 ∷ []) [] (format.set 0 0) (one 1 [] (0x01 ∷ []) [] (omega arith) (last 1 (omega arith)) none-more) (omega arith) (cut-off [] tt (omega arith));
+  counts = refl;
+}))
+
+set-read : ReplayGives whole 0 (Set 1 5 ∷ []) (record { code = 0; told = 3; next = 3 })
+unfolding spellEvent spellItems spell groups
+set-read = goes-on 0 (Set 1 5) 3 [] _ (record { spelling = whole; spells = spelled (Set 1 5) (search needs); long = refl; start = refl }) (stops 3 0 3 (at-end (omega arith)))
+
+-- from the byte that decided on there is an observation that ends at once
+from-byte : ReplayGives whole 2 [] (record { code = 1; told = 3; next = 2 })
+from-byte = stops 2 1 3 (unreadable 1 3 (record {
+  after = 1;
+  row = stopped 1 5 0 (Observe _) _ [] [] [] (format.observe (record { stamp = 0; input = 0; pack = 0; ibat = pos 0; ts = 0; bits = 0 }) 0 (from-zero 0)) none-more (omega arith) (cut-off [] tt (omega arith));
+  counts = refl;
+}))
+
+late : ¬ CatchesUp goesOnAtByte
+unfolding ranBy
+late catches =
+    let unpowered = loads-back Off tt in
+    let some = bytes-each short (search needs) in
+    let all = bytes-each whole (search needs) in
+    let first = replay-is (imageOf Off) Off unpowered short some cut-short in
+    let code-then : replayOf (replayOf (imageOf Off) short 0 .bytes) whole (replayOf (imageOf Off) short 0 .answer .place) .answer .code ≡ 1 =
+    ap (λ (l : Left Replayed). replayOf (l .bytes) whole (l .answer .place) .answer .code) first
+    ∙ ap (λ (l : Left Replayed). l .answer .code) (replay-is (imageOf Off) Off unpowered whole all from-byte) in
+    let code-whole : replayOf (imageOf Off) whole 0 .answer .code ≡ 0 = ap (λ (l : Left Replayed). l .answer .code) (replay-is (imageOf Off) Off unpowered whole all set-read) in
+    let z : _≡_ {A = ℕ} 0 1 = sym code-whole ∙ catches (imageOf Off) short (0x05 ∷ []) some (bytes-each (0x05 ∷ []) (search needs)) 0 .code ∙ code-then in
+    omega arith
+
 pub heads-refuted : HeadsRefuted
-heads-refuted = record { lastRecord = lost; notStored = unstored; spilled = spills }
+heads-refuted = record { lastRecord = lost; notStored = unstored; spilled = spills; atTheByte = late }

@@ -1,7 +1,7 @@
 -- Demand 2 of a head's images, proved of this product's calls.
 use Prim.Native.Nat.{ℕ, _≤_}
-use mathlib.Core.Path.{_≡_, refl, ap, subst, _∙_}
-use mathlib.Core.List.{List, [], _∷_}
+use mathlib.Core.Path.{_≡_, sym, ap, _∙_}
+use mathlib.Core.List.{List, [], _∷_, _++_}
 use lib.ListN.{length}
 use Rattle.base.specs.Told.{Told, accepted}
 use Rattle.base.specs.Volts.{millivoltsOf}
@@ -9,16 +9,14 @@ use Rattle.base.specs.Writing.{put}
 use Rattle.state_parts.specs.Numbers.{phaseNumber}
 use Rattle.state_parts.specs.declared.state.Model.{Model}
 use Rattle.state_parts.specs.declared.state.Model.the-variants.{On}
-use Rattle.state_registers.specs.Reads.{readRegisterOf}
+use Rattle.log_number.specs.Promises.{Bytes}
 use Rattle.log_event.specs.declared.Event.{Event}
-use Rattle.report_state.specs.declared.answer.Report.{Report}
-use Rattle.report_state.specs.Report.{reportOf}
-use Rattle.report_state.specs.Stats.{statOf, statNumber}
-use Rattle.step_event.specs.Steps.{stepOf}
+use Rattle.report_state.specs.Stats.{statNumber}
 use Rattle.c_words.specs.Words.{bytesOf}
-use Rattle.c_image.specs.Images.{modelIn}
-use Rattle.c_calls.specs.Landing.{left, answered, landOf}
-use Rattle.c_calls.specs.Playing.{playedOf, eventAnswered, playOf, eventCallOf}
+use Rattle.c_image.specs.Images.{imageOf, modelIn}
+use Rattle.c_calls.specs.Landing.{left, both, answered, landOf}
+use Rattle.c_calls.specs.Playing.{unread, playedOf, eventAnswered, playOf, eventCallOf}
+use Rattle.c_calls.specs.Replaying.{replayOf}
 use Rattle.c_calls.specs.Showing.{byteTold, registerIn, registerOf, reportNumbers, reportCallOf}
 use Rattle.c_calls.specs.Promises.{ourCalls}
 use Rattle.laws_account.specs.History.{Run}
@@ -30,10 +28,12 @@ use Rattle.laws_account.proofs.Agreeing.{outcome-is-step}
 use Rattle.laws_account.proofs.Looking.{stat-is-model, register-is-model}
 use Rattle.laws_account.proofs.Reports.{report-is-model}
 use Rattle.laws_format.specs.Readers.{SpelledAt}
-use Rattle.laws_heads.specs.Given.{EventGives, given}
-use Rattle.laws_heads.specs.Second.{reportedAt, SecondOfImages}
+use Rattle.laws_format.proofs.Keeping.{our-reads}
+use Rattle.laws_heads.specs.Given.{EventGives, given, NoRecordAt, unreadable, at-end, Ending, ReplayGives}
+use Rattle.laws_heads.specs.Second.{reportedAt, replayedWith, SecondOfImages}
 use Rattle.laws_heads.proofs.Givens.{is-given, met-there}
-use Rattle.laws_heads.proofs.Loads.{lawful, loads}
+use Rattle.laws_heads.proofs.Loads.{past-after, lawful, loads}
+use Rattle.laws_heads.proofs.Replaying.{replay-is, ran-is}
 use Rattle.laws_heads.proofs.Third.{ready}
 
 -- the numbers of a report
@@ -60,6 +60,18 @@ module _ (image : List ℕ) (h : Past) (l : modelIn image ≡ accepted (modelOf 
     unfolding playOf
     play-is log place next k room = rw (met-there k, ready image h (length shown) 28 l room, outcome-is-step h before e)
 
+  unread-is : (log : List ℕ) → Bytes log → (place number told : ℕ) (shown : List ℕ) → NoRecordAt log place number told → 28 ≤ length shown
+      → playOf image log place shown ≡ both (unread number told place) image shown
+  unfolding playOf
+  unread-is log bs place number told shown (unreadable n decided row) room = rw (our-reads .refuses log bs place n decided .1 row, ready image h (length shown) 28 l room)
+  unread-is log bs place number told shown (at-end late) room = rw (our-reads .ends log bs place .1 late, ready image h (length shown) 28 l room)
+
+replayed : (image : List ℕ) (es : List Event) → modelIn image ≡ accepted (modelOf (pastOf none es)) → (log : List ℕ) → Bytes log → (place : ℕ) (new : List Event) (ending : Ending)
+    → ReplayGives log place new ending → replayOf image log place ≡ left (replayedWith (length new) ending) (imageOf (modelOf (pastOf none (es ++ new))))
+replayed image es l log bs place new ending g =
+    let after = ran-is new (pastOf none es) (lawful es) ∙ ap modelOf (sym (past-after es new none)) in
+    replay-is image (modelOf (pastOf none es)) l log bs g ∙ ap (λ m. left (replayedWith (length new) ending) (imageOf m)) after
+
 report-is : (image part : List ℕ) (r : Run) → 24 ≤ length part → modelIn image ≡ accepted (On (stateOf r))
     → reportCallOf image part ≡ left (answered 0) (put (bytesOf (reportedAt r)) part)
 unfolding reportCallOf
@@ -69,6 +81,8 @@ pub second-of-images : SecondOfImages ourCalls
 second-of-images = record {
   event = λ es image v kind words shown e g. event-is image (pastOf none es) (loads v) (lawful es) e shown kind words g;
   play = λ es image v log place shown e next k room. play-is image (pastOf none es) (loads v) (lawful es) e shown log place next k room;
+  unread = λ es image v log bs place number told shown k room. unread-is image (pastOf none es) (loads v) log bs place number told shown k room;
+  replay = λ es image v log bs place new ending g. replayed image es (loads v) log bs place new ending g;
   report = λ es image v r p part room. report-is image part r room (loads v ∙ ap (λ h. accepted (modelOf h)) p);
   register = λ es image v address. registers image (pastOf none es) (loads v) (lawful es) address;
 }

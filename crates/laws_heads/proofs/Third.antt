@@ -1,19 +1,24 @@
 -- Demand 3 of a head's images, proved of this product's calls.
 use Prim.Native.Nat.{ℕ, _*_, _≤_}
 use mathlib.Core.Path.{_≡_, refl, sym, ap, _∙_, subst}
+use mathlib.Core.Bool.{Bool, true, false}
 use mathlib.Core.List.{List, [], _∷_, _++_}
+use native.Mathlib.Omega.{arith}
+use lib.Dec.{ltb}
 use lib.ListN.{length, drop}
 use borrow.Author.Tests.{le-ltb, le-leb}
-use Rattle.base.specs.Told.{accepted}
+use Rattle.base.specs.Pick.{pick}
+use Rattle.base.specs.Told.{accepted, refused}
 use Rattle.base.specs.Writing.{put}
 use Rattle.state_parts.specs.declared.state.Model.the-variants.{On}
 use Rattle.log_event.specs.declared.Event.{Event}
 use Rattle.report_state.specs.Report.{reportOf}
 use Rattle.step_event.specs.Steps.{stepOf}
+use Rattle.c_words.specs.Same.{sameBytes}
 use Rattle.c_words.specs.Words.{bytesOf}
 use Rattle.c_words.proofs.WordLaws.{length-bytes}
-use Rattle.c_image.specs.Images.{modelIn}
-use Rattle.c_calls.specs.Landing.{left, answered, shownNumbers, readyOf, landOf}
+use Rattle.c_image.specs.Images.{imageOf, modelFrom, modelIn}
+use Rattle.c_calls.specs.Landing.{left, answered, shownNumbers, withRoom, readyOf, landOf}
 use Rattle.c_calls.specs.Playing.{playOf, eventCallOf}
 use Rattle.c_calls.specs.Showing.{reportNumbers, reportCallOf}
 use Rattle.c_calls.specs.Promises.{ourCalls}
@@ -36,6 +41,19 @@ put-words ns part h = rw (length-bytes ns, le-leb (length ns * 4) (length part) 
 pub ready : (image : List ℕ) (h : Past) (room wanted : ℕ) → modelIn image ≡ accepted (modelOf h) → wanted ≤ room → readyOf image room wanted ≡ accepted (modelOf h)
 unfolding readyOf
 ready image h room wanted l k = rw (l, le-ltb room wanted k)
+
+-- a call that is refused before it looks at what it is about has a number above the log's: 5 or 12
+pub not-ready : (image : List ℕ) (room wanted number : ℕ) → readyOf image room wanted ≡ refused number → 5 ≤ number
+unfolding readyOf modelIn
+not-ready image room wanted number e = by (sameBytes (imageOf (modelFrom image)) image) e
+  where
+    by-room : (u : Bool) → pick u (refused 12) (accepted (modelFrom image)) ≡ refused number → 5 ≤ number
+    by-room true e = let same : 12 ≡ number = cc in omega arith
+    by-room false e = absurd (let z : _≡_ {A = ℕ} 0 1 = cc in omega arith)
+
+    by : (t : Bool) → withRoom (pick t (accepted (modelFrom image)) (refused 5)) room wanted ≡ refused number → 5 ≤ number
+    by true e = by-room (ltb room wanted) e
+    by false e = let same : 5 ≡ number = cc in omega arith
 
 -- ---- a report
 module _ (image : List ℕ) (part : List ℕ) (room : 24 ≤ length part) where

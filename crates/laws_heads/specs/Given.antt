@@ -25,21 +25,28 @@ pub data EventGives (kind : ℕ) (words : List ℕ) (room : ℕ) : List Event �
   -- "words that aren't as many are 5."
   not-as-many : (e : Event) (ns : List ℕ) → Listed e kind ns → length words ≢ length ns * 4 → EventGives kind words room []
 
--- what is no record: "Unreadable: 1 to 4 and kind 0. At the log's end or past it: number 0 and kind 0, and no byte is changed."
-pub data NoRecordAt (log : List ℕ) (place : ℕ) : Type 0 where
-  unreadable : (n : ℕ) → LogRow n log place → NoRecordAt log place
-  at-end : length log ≤ place → NoRecordAt log place
+-- what is no record, its number and what is told of its place: "Unreadable: 1 to 4 and kind 0; `place` is of what decided it", "At the log's end or past it: number 0 and kind 0, and no
+-- byte is changed."
+pub data NoRecordAt (log : List ℕ) (place : ℕ) : ℕ → ℕ → Type 0 where
+  unreadable : (n decided : ℕ) → LogRow n log place decided → NoRecordAt log place n decided
+  at-end : length log ≤ place → NoRecordAt log place 0 place
 
 -- cheukdane_play: "Plays the record at a place of a log."
 pub data PlayGives (log : List ℕ) (place room : ℕ) : List Event → Type 0 where
   played : (e : Event) (next : ℕ) → SpelledAt log place e next → shownBytes ≤ room → PlayGives log place room (e ∷ [])
   no-room-shown : room < shownBytes → PlayGives log place room []
-  no-record : NoRecordAt log place → PlayGives log place room []
+  no-record : (number told : ℕ) → NoRecordAt log place number told → PlayGives log place room []
+
+-- how a replay ends: the code and its place, and "where to go on: the log's end, or where the record that can't be read starts"
+pub record Ending : Type 0 where
+  pub code : ℕ
+  pub told : ℕ
+  pub next : ℕ
 
 -- cheukdane_replay: "Plays every record of a log from a place on, to the log's end or to one that can't be read"
-pub data ReplayGives (log : List ℕ) : ℕ → List Event → Type 0 where
-  stops : (place : ℕ) → NoRecordAt log place → ReplayGives log place []
-  goes-on : (place : ℕ) (e : Event) (next : ℕ) (es : List Event) → SpelledAt log place e next → ReplayGives log next es → ReplayGives log place (e ∷ es)
+pub data ReplayGives (log : List ℕ) : ℕ → List Event → Ending → Type 0 where
+  stops : (place code told : ℕ) → NoRecordAt log place code told → ReplayGives log place [] (record { code = code; told = told; next = place })
+  goes-on : (place : ℕ) (e : Event) (next : ℕ) (es : List Event) (ending : Ending) → SpelledAt log place e next → ReplayGives log next es ending → ReplayGives log place (e ∷ es) ending
 
 -- bytes that are lent give one list of events, and one alone
 abbrev pub OneList : (List Event → Type 0) → Type 0
@@ -48,4 +55,4 @@ OneList gives = (new : List Event) × (gives new × ((other : List Event) → gi
 pub record EveryInputGives : Type 0 where
   pub event : (kind : ℕ) (words : List ℕ) → Bytes words → (room : ℕ) → OneList (EventGives kind words room)
   pub play : (log : List ℕ) → Bytes log → (place room : ℕ) → OneList (PlayGives log place room)
-  pub replay : (log : List ℕ) → Bytes log → (place : ℕ) → OneList (ReplayGives log place)
+  pub replay : (log : List ℕ) → Bytes log → (place : ℕ) → OneList (λ es. (ending : Ending) × ReplayGives log place es ending)

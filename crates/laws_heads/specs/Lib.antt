@@ -3,4 +3,5 @@ pub mod Given
 pub mod Moved
 pub mod Third
 pub mod Second
+pub mod Growing
 pub mod Wrong

@@ -8,11 +8,13 @@ use Rattle.log_event.specs.declared.Event.{Event}
 use Rattle.log_record.specs.Logs.{spellLog}
 use Rattle.step_event.specs.Wholes.{eventsOf}
 use Rattle.c_image.specs.Images.{zeros}
-use Rattle.c_calls.specs.Landing.{Both, both}
+use Rattle.c_calls.specs.Landing.{Left, left, Both, both}
 use Rattle.c_calls.specs.Playing.{eventCallOf}
-use Rattle.c_calls.specs.Promises.{Calls, RefusalLeaves}
+use Rattle.c_calls.specs.Promises.{Calls, ourCalls, RefusalLeaves}
 use Rattle.c_calls.specs.declared.answer.Answer.{Answer}
+use Rattle.c_calls.specs.declared.answer.Replayed.{Replayed}
 use Rattle.laws_heads.specs.Third.{ThirdOfImages}
+use Rattle.laws_heads.specs.Growing.{CatchesUp}
 
 -- a replay that throws the last record away
 abbrev pub butLast : List Event → List Event
@@ -61,7 +63,26 @@ zeroesWhenRefused calls = record {
   compare = calls .compare;
 }
 
+-- a replay whose `next` is the place of what decided that a record can't be read, and not the record's start; all else is this product's
+abbrev pub nextAtPlace : Left Replayed → Left Replayed
+nextAtPlace l =
+    let a = l .answer in
+    left (record { number = a .number; code = a .code; records = a .records; place = a .place; next = a .place }) (l .bytes)
+
+abbrev pub goesOnAtByte : Calls
+goesOnAtByte = record {
+  off = ourCalls .off;
+  play = ourCalls .play;
+  replay = λ image log place. nextAtPlace (ourCalls .replay image log place);
+  event = ourCalls .event;
+  report = ourCalls .report;
+  register = ourCalls .register;
+  write = ourCalls .write;
+  compare = ourCalls .compare;
+}
+
 pub record HeadsRefuted : Type 0 where
   pub lastRecord : (calls : Calls) → ¬ ThirdOfImages (replaysButLast calls)
   pub notStored : (calls : Calls) → ¬ ThirdOfImages (playsUnstored calls)
+  pub atTheByte : ¬ CatchesUp goesOnAtByte
   pub spilled : (calls : Calls) → ¬ RefusalLeaves (zeroesWhenRefused calls)

@@ -78,7 +78,7 @@ module _ (image : List ℕ) (m : Model) (loads : modelIn image ≡ accepted m) (
   event-kept kind words h = rw ready-is (gives (ltb (length shown) 28) (givenOf kind words) (given-fits kind words h))
 
 -- whatever ends a log, the walk's model stands
-ended-model : (w : Walk) (s : StopTold) → endedBy w s .walk .model ≡ w .model
+pub ended-model : (w : Walk) (s : StopTold) → endedBy w s .walk .model ≡ w .model
 ended-model w full = refl
 ended-model w page.end = refl
 ended-model w (unreadable number place) = refl

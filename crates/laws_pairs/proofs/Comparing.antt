@@ -28,13 +28,13 @@ module _ {both : List Event} {start : List ℕ} (so : SpellsAll both start) wher
 
   says : {rest other : List ℕ} {x y : Met} → After (length start) rest x → After (length start) other y → shared x y ≡ none → Says rest other x y
   says (event e n s r p) over apart = rw append-nil (second-is-start both start (s ++ r) so)
-  says (unreadable n rest bad) over apart = rw append-nil (second-is-start both start rest so)
+  says (unreadable n p rest bad) over apart = rw append-nil (second-is-start both start rest so)
   says over over apart = rw append-nil (subst (λ l. SideBySide l start (first (length start))) (append-nil start) (second-is-start both start [] so))
   says over (event f m t o q) apart = rw append-nil (first-is-start both start (t ++ o) so (omega (arith, some-bytes q o)))
-  says over (unreadable n other bad) apart = rw append-nil (first-is-start both start other so (omega (arith, bad-bytes bad)))
-  says (unreadable n rest bad) (event f m t o q) apart = first-unreadable n both start rest (t ++ o) so bad (omega (arith, some-bytes q o))
-  says (unreadable n rest bad) (unreadable m other worse) apart = first-unreadable n both start rest other so bad (omega (arith, bad-bytes worse))
-  says (event e n s r p) (unreadable m other bad) apart = second-unreadable m both e start s r other so p bad
+  says over (unreadable n p other bad) apart = rw append-nil (first-is-start both start other so (omega (arith, bad-bytes bad)))
+  says (unreadable n p rest bad) (event f m t o q) apart = first-unreadable n p both start rest (t ++ o) so bad (omega (arith, some-bytes q o))
+  says (unreadable n p rest bad) (unreadable m q other worse) apart = first-unreadable n p both start rest other so bad (omega (arith, bad-bytes worse))
+  says (event e n s r p) (unreadable m q other bad) apart = second-unreadable m q both e start s r other so p bad
   says (event e n s r p) (event f m t o q) apart = different both e f start s r t o so p q (alike e f n m apart)
 
   pub said : (a b rest other : List ℕ) (at : ℕ) → a ≡ start ++ rest → b ≡ start ++ other → at ≡ length start → Bytes a → Bytes b
@@ -79,11 +79,11 @@ answer-is (second-is-start both start rest so) ba bb =
 answer-is (first-is-start both start rest so more) ba bb =
     stop so _ _ [] rest (sym (append-nil start)) refl ba bb end _ (at-end start (length start) (omega arith)) refl refl
     ∙ second-more (suc (length both)) (length start) _ (not-over start rest bb more) .0
-answer-is (first-unreadable n both start rest other so bad more) ba bb =
-    stop so _ _ rest other refl refl ba bb (log.refused n (length start)) _ (refused-there start rest ba n bad) refl refl
-    ∙ second-more (suc (length both)) (length start) _ (not-over start other bb more) .1 n (length start)
-answer-is (second-unreadable n both e start s rest other so p bad) ba bb =
-    stop so _ _ _ other refl refl ba bb (met e (length start + length s)) (log.refused n (length start)) (our-reads .back e s p start rest) (refused-there start other bb n bad) refl
+answer-is (first-unreadable n place both start rest other so bad more) ba bb =
+    stop so _ _ rest other refl refl ba bb (log.refused n (length start + place)) _ (refused-there start rest ba n place bad) refl refl
+    ∙ second-more (suc (length both)) (length start) _ (not-over start other bb more) .1 n (length start + place)
+answer-is (second-unreadable n place both e start s rest other so p bad) ba bb =
+    stop so _ _ _ other refl refl ba bb (met e (length start + length s)) (log.refused n (length start + place)) (our-reads .back e s p start rest) (refused-there start other bb n place bad) refl
 answer-is (different both e f start s rest t other so p q h) ba bb =
     stop so _ _ _ _ refl refl ba bb (met e (length start + length s)) (met f (length start + length t)) (our-reads .back e s p start rest) (our-reads .back f t q start other) (unlike e f (length start + length s) (length start + length t) h)
 

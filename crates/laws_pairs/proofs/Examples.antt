@@ -18,17 +18,20 @@ use Rattle.laws_pairs.proofs.Texts.{our-texts}
 one-service : SpellsAll (Service ∷ []) (0x06 ∷ [])
 one-service = event-then Service [] (0x06 ∷ []) [] (paper-bytes .service) no-events
 
-cut : NoRecord 1 (0x02 ∷ [])
-cut = stopped 1 2 (Set 0 0) (0 ∷ 0 ∷ []) [] [] [] (format.set 0 0) none (omega arith) (cut-off [] tt (omega arith))
+cut : NoRecord 1 (0x02 ∷ []) 1
+cut = stopped 1 2 0 (Set 0 0) (0 ∷ 0 ∷ []) [] [] [] (format.set 0 0) none (omega arith) (cut-off [] tt (omega arith))
 
 pub pair-rows : PairRows
 pair-rows = record {
   equal = second-is-start (Service ∷ []) (0x06 ∷ []) [] one-service;
   firstLonger = second-is-start (Service ∷ []) (0x06 ∷ []) (0x00 ∷ []) one-service;
   secondLonger = first-is-start (Service ∷ []) (0x06 ∷ []) (0x00 ∷ []) one-service (omega arith);
-  insideARecord = first-unreadable 1 [] [] (0x02 ∷ []) (0x02 ∷ 0x01 ∷ 0x05 ∷ []) no-events cut (omega arith);
-  firstBeforeSecond = first-unreadable 4 (Service ∷ []) (0x06 ∷ []) (0x00 ∷ []) (0x02 ∷ []) one-service (paper-bytes .kindZero) (omega arith);
-  secondAlone = second-unreadable 1 (Service ∷ []) Service (0x06 ∷ []) (0x06 ∷ []) [] (0x02 ∷ []) one-service (paper-bytes .service) cut;
+  insideARecord = first-unreadable 1 1 [] [] (0x02 ∷ []) (0x02 ∷ 0x01 ∷ 0x05 ∷ []) no-events cut (omega arith);
+  firstBeforeSecond = first-unreadable 4 0 (Service ∷ []) (0x06 ∷ []) (0x00 ∷ []) (0x02 ∷ []) one-service (paper-bytes .kindZero) (omega arith);
+  secondAlone = second-unreadable 1 1 (Service ∷ []) Service (0x06 ∷ []) (0x06 ∷ []) [] (0x02 ∷ []) one-service (paper-bytes .service) cut;
+  zeroInFirst = first-unreadable 2 2 (Service ∷ []) (0x06 ∷ []) (0x02 ∷ 0x80 ∷ 0x00 ∷ []) (0x02 ∷ []) one-service (paper-bytes .numberByNumber) (omega arith);
+  fifthInSecond = second-unreadable 3 5 (Service ∷ []) Reset (0x06 ∷ []) (0x07 ∷ []) [] (0x02 ∷ 0x80 ∷ 0x80 ∷ 0x80 ∷ 0x80 ∷ 0x80 ∷ []) one-service (paper-bytes .reset)
+      (stopped 3 2 4 (Set 0 0) (0 ∷ 0 ∷ []) [] [] _ (format.set 0 0) none (omega arith) (paper-bytes .fiveHigh));
   different = different (Service ∷ []) Service Reset (0x06 ∷ []) (0x06 ∷ []) [] (0x07 ∷ []) [] one-service (paper-bytes .service) (paper-bytes .reset)
       (λ e. let z : _≡_ {A = ℕ} 0 1 = cc in omega arith);
 }

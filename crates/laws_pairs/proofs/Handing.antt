@@ -40,8 +40,8 @@ Within a b (refused n number place) = Unit {0}
 within : {a b : List ℕ} {x : Answer} → SideBySide a b x → Within a b x
 within (second-is-start both start rest so) = omega (arith, length-append start rest)
 within (first-is-start both start rest so more) = omega (arith, length-append start rest)
-within (first-unreadable n both start rest other so bad more) = tt
-within (second-unreadable n both e start s rest other so p bad) = tt
+within (first-unreadable n place both start rest other so bad more) = tt
+within (second-unreadable n place both e start s rest other so p bad) = tt
 within (different both e f start s rest t other so p q h) = tt
 
 module _ (a b : RefT (List ℕ)) (ba : Bytes (now a)) (bb : Bytes (now b)) where

@@ -16,6 +16,7 @@ use Rattle.log_pairs.specs.Comparing.{Answer, refused, compareOf, inputsOf}
 use Rattle.log_pairs.specs.Text.{answerText}
 use Rattle.laws_format.specs.Format.{SpellsAll, no-events, event-then}
 use Rattle.laws_format.proofs.Logs.{some-bytes}
+use Rattle.laws_format.proofs.RecordsDecided.{record-within}
 use Rattle.laws_pairs.specs.Compared.{SideBySide, second-is-start, first-is-start, first-unreadable, second-unreadable, different}
 use Rattle.laws_pairs.specs.Files.{longest, FilesCompared, first-too-long, second-too-long, both-read}
 use Rattle.laws_pairs.specs.Ours.{ourCompare}
@@ -28,12 +29,12 @@ few : {es : List Event} {bytes : List ℕ} → SpellsAll es bytes → length es 
 few no-events = omega arith
 few (event-then e es s bytes p so) = omega (arith, few so, some-bytes p [], length-append s bytes, length-append s [])
 
-small-by : {a b : List ℕ} {answer : Answer} → SideBySide a b answer → length a ≤ longest → Within32 answer
-small-by (second-is-start both start rest so) l = omega (arith, length-append start rest)
-small-by (first-is-start both start rest so more) l = omega (arith, length-append start rest)
-small-by (first-unreadable n both start rest other so bad more) l = let k = length-append start rest in (omega (arith, few so), omega arith)
-small-by (second-unreadable n both e start s rest other so p bad) l = let k = length-append start (s ++ rest) in (omega (arith, few so), omega arith)
-small-by (different both e f start s rest t other so p q h) l = let k = length-append start (s ++ rest) in (omega (arith, few so), omega arith)
+small-by : {a b : List ℕ} {answer : Answer} → SideBySide a b answer → length a ≤ longest → length b ≤ longest → Within32 answer
+small-by (second-is-start both start rest so) l m = omega (arith, length-append start rest)
+small-by (first-is-start both start rest so more) l m = omega (arith, length-append start rest)
+small-by (first-unreadable n place both start rest other so bad more) l m = let k = length-append start rest in (omega (arith, few so), omega (arith, record-within bad .0))
+small-by (second-unreadable n place both e start s rest other so p bad) l m = let k = length-append start other in (omega (arith, few so), omega (arith, record-within bad .0))
+small-by (different both e f start s rest t other so p q h) l m = let k = length-append start (s ++ rest) in (omega (arith, few so), omega arith)
 
 module _ (a b : List ℕ) (ba : Bytes a) (bb : Bytes b) where
   inputs-are : {answer : Answer} → FilesCompared a b answer → inputsOf kinds a b ≡ answer
@@ -56,7 +57,7 @@ module _ (a b : List ℕ) (ba : Bytes a) (bb : Bytes b) where
 small : {a b : List ℕ} {answer : Answer} → FilesCompared a b answer → Within32 answer
 small (first-too-long h) = (omega arith, omega arith)
 small (second-too-long h) = (omega arith, omega arith)
-small (both-read answer la lb so) = small-by so la
+small (both-read answer la lb so) = small-by so la lb
 
 pub our-printed : OurPrinted
 our-printed a b ba bb text =

@@ -36,14 +36,14 @@ all-spelled log bs at (e ∷ es) to r =
     let k = all-spelled log bs (r .0) es to (r .2) in
     (event-then e es _ _ (spelled e (s .fits)) (k .0), omega (arith, s .long, k .1, length-append (spellEvent e) (spellLog es)))
 
-pub bad-bytes : {n : ℕ} {rest : List ℕ} → NoRecord n rest → 0 < length rest
+pub bad-bytes : {n place : ℕ} {rest : List ℕ} → NoRecord n rest place → 0 < length rest
 bad-bytes (no-kind b rest out) = omega arith
-bad-bytes (stopped n kind e every ns before left l so few bad) = omega arith
+bad-bytes (stopped n kind place e every ns before left l so few bad) = omega arith
 
 -- what stands after a log's start, and what is read there
 pub data After (at : ℕ) : List ℕ → Met → Type 0 where
   event : (e : Event) (next : ℕ) (spelling rest : List ℕ) → Spells e spelling → After at (spelling ++ rest) (met e next)
-  unreadable : (n : ℕ) (rest : List ℕ) → NoRecord n rest → After at rest (refused n at)
+  unreadable : (n place : ℕ) (rest : List ℕ) → NoRecord n rest place → After at rest (refused n (at + place))
   over : After at [] end
 
 nothing : {at : ℕ} (rest : List ℕ) → length rest ≤ 0 → After at rest end
@@ -59,11 +59,11 @@ module _ (start rest : List ℕ) (bs : Bytes (start ++ rest)) where
     where
       by : (x : Met) → recordAt kinds (start ++ rest) (length start) ≡ x → After (length start) rest x
       by (met e next) m = let k = our-reads .only (start ++ rest) bs (length start) e next m in rw (sym here ∙ k .start) (event e next (k .spelling) (drop next (start ++ rest)) (k .spells))
-      by (refused n place) m = let k = our-reads .refuses (start ++ rest) bs (length start) n place .0 m in rw (k .1) (unreadable n rest (rw here at (k .0)))
+      by (refused n place) m = let k = our-reads .refuses (start ++ rest) bs (length start) n place .0 m in rw (k .counts) (unreadable n (k .after) rest (rw here at (k .row)))
       by end m = nothing rest (omega (arith, our-reads .ends (start ++ rest) bs (length start) .0 m, length-append start rest))
 
-  pub refused-there : (n : ℕ) → NoRecord n rest → recordAt kinds (start ++ rest) (length start) ≡ refused n (length start)
-  refused-there n row = our-reads .refuses (start ++ rest) bs (length start) n (length start) .1 (rw here row, refl)
+  pub refused-there : (n place : ℕ) → NoRecord n rest place → recordAt kinds (start ++ rest) (length start) ≡ refused n (length start + place)
+  refused-there n place row = our-reads .refuses (start ++ rest) bs (length start) n (length start + place) .1 (record { after = place; row = rw here row; counts = refl })
 
   pub not-over : 0 < length rest → ¬ (recordAt kinds (start ++ rest) (length start) ≡ end)
   not-over some m = let k = our-reads .ends (start ++ rest) bs (length start) .0 m in absurd (omega (arith, length-append start rest))

@@ -11,10 +11,13 @@ pub record PairRows : Type 0 where
   pub firstLonger : SideBySide (0x06 ∷ 0x00 ∷ []) (0x06 ∷ []) (first 1)
   pub secondLonger : SideBySide (0x06 ∷ []) (0x06 ∷ 0x00 ∷ []) (second 1)
   -- a log that ends inside a record, though its bytes start the other
-  pub insideARecord : SideBySide (0x02 ∷ []) (0x02 ∷ 0x01 ∷ 0x05 ∷ []) (refused 1 1 0)
+  pub insideARecord : SideBySide (0x02 ∷ []) (0x02 ∷ 0x01 ∷ 0x05 ∷ []) (refused 1 1 1)
   -- "first log before second": 4 and 1
   pub firstBeforeSecond : SideBySide (0x06 ∷ 0x00 ∷ []) (0x06 ∷ 0x02 ∷ []) (refused 4 2 1)
-  pub secondAlone : SideBySide (0x06 ∷ 0x06 ∷ []) (0x06 ∷ 0x02 ∷ []) (refused 1 2 1)
+  pub secondAlone : SideBySide (0x06 ∷ 0x06 ∷ []) (0x06 ∷ 0x02 ∷ []) (refused 1 2 2)
+  -- the offset is one in the log that can't be read: in the first a zero group, though the second ends sooner; in the second the fifth group
+  pub zeroInFirst : SideBySide (0x06 ∷ 0x02 ∷ 0x80 ∷ 0x00 ∷ []) (0x06 ∷ 0x02 ∷ []) (refused 2 2 3)
+  pub fifthInSecond : SideBySide (0x06 ∷ 0x07 ∷ []) (0x06 ∷ 0x02 ∷ 0x80 ∷ 0x80 ∷ 0x80 ∷ 0x80 ∷ 0x80 ∷ []) (refused 3 2 6)
   -- "Different records give 14, record number and offset"
   pub different : SideBySide (0x06 ∷ 0x06 ∷ []) (0x06 ∷ 0x07 ∷ []) (refused 14 2 1)
 

@@ -34,6 +34,17 @@ refusalFirst (refused n number place) other = other
 abbrev pub secondBeforeFirst : Comparer
 secondBeforeFirst a b = refusalFirst (ourCompare a b) (ourCompare b a)
 
+-- the offset in the other log, where neither can be read
+abbrev pub withOffset : Answer → Answer → Answer
+withOffset (refused n number place) (refused m count other) = refused n number other
+withOffset (refused n number place) (first at) = refused n number place
+withOffset (refused n number place) (second at) = refused n number place
+withOffset (first at) other = first at
+withOffset (second at) other = second at
+
+abbrev pub otherOffset : Comparer
+otherOffset a b = withOffset (ourCompare a b) (ourCompare b a)
+
 -- counts records from 0
 abbrev pub oneLess : Answer → Answer
 oneLess (first at) = first at
@@ -59,6 +70,7 @@ byBytes a b = bytesFrom 0 a b (ourCompare a b)
 pub record PairsRefuted : Type 0 where
   pub onward : (number : ℕ) → ¬ Compares (readsOn number)
   pub order : ¬ Compares secondBeforeFirst
+  pub offset : ¬ Compares otherOffset
   pub count : ¬ Compares countsFromZero
   pub equal : ¬ Compares neverSame
   pub bytes : ¬ Compares byBytes

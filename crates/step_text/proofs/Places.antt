@@ -3,18 +3,15 @@ use Prim.Native.Nat.{ℕ, zero, suc, _≤_}
 use mathlib.Core.Path.{_≡_, refl, ap}
 use mathlib.Core.Logic.{_≢_}
 use mathlib.Core.List.{List, [], _∷_}
-use mathlib.Core.Option.{Option, none, some}
 use native.Mathlib.Omega.{arith}
 use native.Mathlib.Nat.{mod-eq-of-lt}
-use lib.ListN.{length, drop}
-use Rattle.base.specs.Found.{Found, found, refused}
+use lib.ListN.{length}
 use Rattle.log_number.specs.Promises.{Bytes}
-use Rattle.log_event.specs.Kinds.{KindRow, kinds, rowFor}
-use Rattle.log_event.specs.Items.{Item}
-use Rattle.log_event.specs.declared.kinds.Kind.{Kind}
-use Rattle.log_record.specs.Items.{readItems}
-use Rattle.log_record.specs.Records.{ofKind, ofRow, readRecord, placed, recordAt}
+use Rattle.log_event.specs.Kinds.{kinds}
+use Rattle.log_record.specs.Records.{recordAt}
 use Rattle.log_record.specs.Records as log
+use Rattle.log_record.proofs.Inside.{refused-inside}
+use Rattle.state_parts.specs.declared.state.Model.{Model}
 use Rattle.report_text.specs.Text.{endText, low32}
 use Rattle.step_event.specs.Walks.{WalkTold, met, unreadable, end, afterRead, walkOf}
 use Rattle.step_event.specs.Pages.{StopTold, Passed, passedBy, pageOf, endBy}
@@ -23,34 +20,6 @@ use Rattle.step_event.specs.declared.walking.Met.{Met}
 use Rattle.step_event.specs.declared.walking.Walk.{Walk}
 use Rattle.step_event.proofs.Moves.{walk-moves}
 use Rattle.step_text.specs.Prints.{lastText}
-
--- ---- "The place is the record's start."
-abbrev AtStart : ℕ → log.Met → Type 0
-AtStart at (log.met e next) = Unit {0}
-AtStart at (log.refused n p) = p ≡ at
-AtStart at log.end = Unit {0}
-
-of-kind : (k : Kind) (x : Found (List Item)) → AtStart 0 (ofKind k x)
-of-kind k (found is c) = tt
-of-kind k (refused n p) = refl
-
-of-row : (r : Option KindRow) (s : List ℕ) → AtStart 0 (ofRow r s)
-of-row none s = refl
-of-row (some r) s = of-kind (r .kind) (readItems (r .shapes) s)
-
-read : (s : List ℕ) → AtStart 0 (readRecord kinds s)
-unfolding readRecord
-read [] = tt
-read (b ∷ s) = of-row (rowFor kinds b) s
-
-there : (at : ℕ) (x : log.Met) → AtStart 0 x → AtStart at (placed at x)
-there at (log.met e next) h = tt
-there at (log.refused n p) h = omega (arith, h)
-there at log.end h = tt
-
-at-start : (bytes : List ℕ) (at : ℕ) → AtStart at (recordAt kinds bytes at)
-unfolding recordAt
-at-start bytes at = there at (readRecord kinds (drop at bytes)) (read (drop at bytes))
 
 -- ---- where records end
 abbrev StopWithin : ℕ → StopTold → Type 0
@@ -63,16 +32,16 @@ pub record Within (most : ℕ) (p : Passed) : Type 0 where
   pub stop : StopWithin most (p .stop)
 
 module _ (bytes : List ℕ) (bs : Bytes bytes) where
-  stops : (w : Walk) → w .place ≤ length bytes → (n p : ℕ) → (x : log.Met) → AtStart (w .place) x → (m : _) → afterRead w x ≡ unreadable n p m → p ≤ length bytes
+  stops : (w : Walk) → w .place ≤ length bytes → (n p : ℕ) → (x : log.Met) → recordAt kinds bytes (w .place) ≡ x → (m : Model) → afterRead w x ≡ unreadable n p m → p ≤ length bytes
   stops w h n p (log.met e next) s m is = absurd (let z : _≡_ {A = ℕ} 0 1 = cc in omega arith)
-  stops w h n p (log.refused k q) s m is = let same : q ≡ p = cc in omega (arith, s, same)
+  stops w h n p (log.refused k q) s m is = let same : q ≡ p = cc in omega (arith, refused-inside bytes (w .place) k q s h .1, same)
   stops w h n p log.end s m is = absurd (let z : _≡_ {A = ℕ} 0 1 = cc in omega arith)
 
   first : (most : ℕ) (w : Walk) → w .place ≤ length bytes → ((v : Walk) → v .place ≤ length bytes → Within (length bytes) (pageOf most bytes v))
       → (x : WalkTold) → walkOf bytes w ≡ x → Within (length bytes) (passedBy w x (λ v. pageOf most bytes v))
   unfolding walkOf
   first most w h ih (met m) is = let k = ih (m .walk) (walk-moves bytes bs w m is .1) in record { last = k .last; stop = k .stop }
-  first most w h ih (unreadable n p m) is = record { last = h; stop = stops w h n p (recordAt kinds bytes (w .place)) (at-start bytes (w .place)) m is }
+  first most w h ih (unreadable n p m) is = record { last = h; stop = stops w h n p (recordAt kinds bytes (w .place)) refl m is }
   first most w h ih end is = record { last = h; stop = tt }
 
   pub within : (most : ℕ) (w : Walk) → w .place ≤ length bytes → Within (length bytes) (pageOf most bytes w)

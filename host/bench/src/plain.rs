@@ -64,7 +64,9 @@ pub fn play(image: &mut [u8], log: &[u8], place: usize, shown: &mut [u8]) -> Pla
     };
     let (event, next) = match record::read(log, place) {
         Reading::Record { event, next } => (event, next),
-        Reading::Refused(refused) => return none(refused.code.number()),
+        Reading::Refused(refused) => {
+            return Played { place: refused.place as u64, ..none(refused.code.number()) }
+        }
         Reading::End => return none(0),
     };
     let number = match stepped(&held, &event) {

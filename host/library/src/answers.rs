@@ -18,9 +18,10 @@ pub struct Played {
     pub number: u32,
     /// The kind of the record that was read; 0 if none was.
     pub kind: u32,
-    /// Where that record, or what can't be read, starts.
+    /// The given place, where the record starts; with 1 to 4, the place of
+    /// what decided it.
     pub place: u64,
-    /// Where the next record starts; `place` if none was read.
+    /// Where the next record starts; the given place if none was read.
     pub next: u64,
 }
 
@@ -34,8 +35,11 @@ pub struct Replayed {
     pub code: u32,
     /// How many records were read.
     pub records: u64,
-    /// The log's end, or where what can't be read starts.
+    /// The log's end; with a code, the place of what decided it.
     pub place: u64,
+    /// Where to go on: the log's end, or where the record that can't be read
+    /// starts.
+    pub next: u64,
 }
 
 /// `struct cheukdane_byte`.
@@ -72,6 +76,7 @@ pub struct Compared {
     pub log: u32,
     /// With a refusal, the record's number, from 1; else 0.
     pub record: u64,
-    /// Where the rest, or the record, starts.
+    /// Where the rest starts; with 14, where the record does; with 1 to 4, the
+    /// place of what decided it, in its own log.
     pub place: u64,
 }

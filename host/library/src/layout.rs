@@ -2,9 +2,9 @@
 //! words stand.
 
 /// The number of the rules.
-pub const RULES: u32 = 2;
+pub const RULES: u32 = 3;
 /// The format of an image: word 0 of a model that is on.
-pub const FORMAT: u32 = 2;
+pub const FORMAT: u32 = 3;
 /// Bytes of a word.
 pub const WORD: usize = 4;
 /// Words of an image.

@@ -1,6 +1,7 @@
 //! Logs, whole and damaged, played record by record: answers, images, reports
 //! and registers after every record.
 
+use library::answers::Played;
 use library::both;
 use library::image::{self, Held, Powered};
 use library::layout::{IMAGE, REPORT, SHOWN};
@@ -166,6 +167,40 @@ fn every_place_of_a_log() {
         }
     }
     tally.met_exactly([0, 1, 2, 3, 4, 5, 7, 8, 9, 10, 11]);
+}
+
+/// "the bytes up to and including that one decide: every log that starts with
+/// them is refused with the same number and place, and a log that ends before
+/// that byte isn't refused with that number".
+fn check_decided(log: &[u8], place: usize, refused: Played) {
+    let play = |log: &[u8]| both::play(&mut [0; IMAGE], log, place, &mut [0xEE; SHOWN]);
+    assert_eq!((refused.kind, refused.next), (0, place as u64), "{place} of {log:02X?}");
+    let decided = refused.place as usize;
+    if refused.number == 1 {
+        assert_eq!(decided, log.len(), "{place} of {log:02X?}");
+        return;
+    }
+    for tail in [&[][..], &[0], &[1; 50], &[0x80], &[0xFF; 6]] {
+        let other = [&log[..=decided], tail].concat();
+        assert_eq!(play(&other), refused, "{place} of {other:02X?}");
+    }
+    assert_ne!(play(&log[..decided]).number, refused.number, "{place} of {log:02X?}");
+}
+
+#[test]
+fn the_byte_that_decided_it() {
+    let mut tally = Tally::default();
+    for seed in 0..times(1_000) {
+        let log = damaged_log(seed + 6_000_000, 12);
+        for place in 0..log.len() {
+            let played = both::play(&mut [0; IMAGE], &log, place, &mut [0xEE; SHOWN]);
+            if (1..=4).contains(&played.number) {
+                check_decided(&log, place, played);
+                tally.count(played.number);
+            }
+        }
+    }
+    tally.met_exactly([1, 2, 3, 4]);
 }
 
 /// At the log's end and past it there is no record, and no byte changes.

@@ -48,6 +48,21 @@ fn a_log_and_each_of_its_starts() {
     tally.met_exactly([0, 1]);
 }
 
+/// A damaged log beside each of its starts: often neither can be read, each at
+/// a place of its own.
+#[test]
+fn a_damaged_log_and_each_of_its_starts() {
+    let mut tally = Tally::default();
+    for seed in 0..times(300) {
+        let log = damaged_log(seed + 8_000_000, 10);
+        for length in 0..=log.len() {
+            tally.count(both::compare(&log[..length], &log).number);
+            tally.count(both::compare(&log, &log[..length]).number);
+        }
+    }
+    tally.met_exactly(0..=4);
+}
+
 /// Each byte of a log changed in one of the two.
 #[test]
 fn a_log_and_one_with_a_byte_changed() {
@@ -65,31 +80,30 @@ fn a_log_and_one_with_a_byte_changed() {
     tally.met_exactly([1, 2, 3, 4, 14]);
 }
 
-/// Both unreadable at one record: the first log's answer.
+/// A sixth record that can't be read, its number, and the place of what
+/// decided it, from the record's start; the last can be read, to its end.
+const SIXTH: [(&[u8], u32, u64); 6] = [
+    (&[2], 1, 1),
+    (&[2, 1, 0x80], 1, 3),
+    (&[2, 0x80, 0], 2, 2),
+    (&[2, 0xFF, 0xFF, 0xFF, 0xFF, 0x7F, 0x80], 3, 5),
+    (&[9], 4, 0),
+    (&[2, 1, 1], 0, 3),
+];
+
+/// Both unreadable at one record: the first log's answer, with a place in it.
 #[test]
 fn the_first_log_comes_first() {
-    let ends: [&[u8]; 5] =
-        [&[2], &[2, 0x80, 0], &[2, 0xFF, 0xFF, 0xFF, 0xFF, 0x7F], &[9], &[2, 1, 1]];
     let start = plausible_log(1, 5);
-    for (one, in_first) in (1..).zip(ends) {
-        for (other, in_second) in (1..).zip(ends) {
+    for in_first in SIXTH {
+        for in_second in SIXTH {
             let answer = both::compare(
-                &[start.as_slice(), in_first].concat(),
-                &[start.as_slice(), in_second].concat(),
+                &[start.as_slice(), in_first.0].concat(),
+                &[start.as_slice(), in_second.0].concat(),
             );
-            let wanted = match (one, other) {
-                (1..=4, _) => one,
-                (_, 1..=4) => other,
-                _ => 0,
-            };
-            assert_eq!(
-                (answer.number, answer.place),
-                match wanted {
-                    0 => (0, start.len() as u64 + 3),
-                    number => (number, start.len() as u64),
-                }
-            );
-            assert_eq!(answer.record, if wanted == 0 { 0 } else { 6 });
+            let (_, number, place) = if in_first.1 != 0 { in_first } else { in_second };
+            assert_eq!((answer.number, answer.place), (number, start.len() as u64 + place));
+            assert_eq!(answer.record, if number == 0 { 0 } else { 6 });
         }
     }
 }

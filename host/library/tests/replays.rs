@@ -1,5 +1,6 @@
-//! Logs, whole and damaged, replayed in one call: answers and images, and that
-//! the records played one by one come to the same.
+//! Logs, whole and damaged, replayed in one call: answers and images, that the
+//! records played one by one come to the same, and that a log which grows is
+//! caught up with.
 
 use library::answers::Replayed;
 use library::both;
@@ -24,11 +25,11 @@ fn played(image: &[u8], log: &[u8], place: usize) -> (Replayed, Vec<u8>) {
     let mut records = 0;
     loop {
         let played = library::calls::play(&mut image, log, place, &mut [0; SHOWN]);
-        place = played.next as usize;
         if played.kind == 0 {
-            let code = played.number;
-            return (Replayed { number: 0, code, records, place: played.place }, image);
+            let (code, place, next) = (played.number, played.place, played.next);
+            return (Replayed { number: 0, code, records, place, next }, image);
         }
+        place = played.next as usize;
         records += 1;
     }
 }
@@ -97,6 +98,11 @@ fn every_place_on_any_model() {
     tally.met_exactly(0..=4);
 }
 
+/// An answer without a record: place and next are as given.
+fn none(number: u32, place: usize) -> Replayed {
+    Replayed { number, code: 0, records: 0, place: place as u64, next: place as u64 }
+}
+
 /// At the log's end and past it no record is read, and no byte changes.
 #[test]
 fn the_end_and_past_it() {
@@ -105,8 +111,70 @@ fn the_end_and_past_it() {
     for place in (log.len()..log.len() + 20).chain(far) {
         for log in [&log[..], &[]] {
             let (answer, image) = replayed(&[0; IMAGE], log, place);
-            assert_eq!(answer, Replayed { number: 0, code: 0, records: 0, place: place as u64 });
-            assert_eq!(image, [0; IMAGE]);
+            assert_eq!((answer, &image[..]), (none(0, place), &[0; IMAGE][..]));
         }
+    }
+}
+
+/// With bytes that aren't an image no record is looked for, at no place.
+#[test]
+fn bytes_that_are_no_image() {
+    let log = damaged_log(1, 40);
+    for place in (0..log.len() + 20).chain([1 << 16, 1 << 32, usize::MAX]) {
+        for bytes in [&[2; IMAGE][..], &[0; IMAGE - 1]] {
+            let (answer, left) = replayed(bytes, &log, place);
+            assert_eq!((answer, &left[..]), (none(5, place), bytes));
+        }
+    }
+}
+
+/// "Once it is longer, a replay of it from `next`, on the image as it was left,
+/// comes to what replaying the longer log whole would have". Gives the code at
+/// which the shorter log was left.
+fn caught_up(image: &[u8], log: &[u8], length: usize, whole: &(Replayed, Vec<u8>)) -> u32 {
+    let (early, left) = replayed(image, &log[..length], 0);
+    let (late, after) = replayed(&left, log, early.next as usize);
+    let records = early.records + late.records;
+    assert_eq!(&(Replayed { records, ..late }, after), whole, "{length} of {log:02X?}");
+    early.code
+}
+
+/// Logs cut at every place, on models that are off and such as pass.
+#[test]
+fn logs_that_grow() {
+    let mut rng = Rng::new(24);
+    let mut tally = Tally::default();
+    for seed in 0..times(400) {
+        let log = match seed % 3 {
+            0 => plausible_log(seed + 3_000_000, 20),
+            _ => damaged_log(seed + 3_000_000, 20),
+        };
+        let on = image::of(&Held::On(Powered::new(1, 0, any_state(&mut rng))));
+        for image in [&[0; IMAGE][..], &on] {
+            let whole = replayed(image, &log, 0);
+            for length in 0..=log.len() {
+                tally.count(caught_up(image, &log, length, &whole));
+            }
+        }
+    }
+    tally.met_exactly(0..=4);
+}
+
+/// A head that replays its log whenever it has a few bytes more, from `next`.
+#[test]
+fn a_log_that_grows_by_a_few_bytes() {
+    let mut rng = Rng::new(25);
+    for seed in 0..times(1_000) {
+        let log = damaged_log(seed + 4_000_000, 30);
+        let (whole, after) = replayed(&[0; IMAGE], &log, 0);
+        let (mut last, mut image) = (none(0, 0), vec![0; IMAGE]);
+        let mut length = 0;
+        let mut records = 0;
+        while length < log.len() {
+            length = log.len().min(length + 1 + rng.place(4));
+            (last, image) = replayed(&image, &log[..length], last.next as usize);
+            records += last.records;
+        }
+        assert_eq!((Replayed { records, ..last }, image), (whole, after), "{log:02X?}");
     }
 }

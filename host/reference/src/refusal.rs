@@ -43,8 +43,9 @@ impl Refusal {
 
 /// A refusal and the place it belongs to.
 ///
-/// "The place is the record's start"; "An event given outside a log has
-/// place 0."
+/// Of 1, 2 and 3 it is "the offset of the byte that decided it"; "Refusals 4
+/// and 14 keep the record's start", and so do the model's. "An event given
+/// outside a log has place 0."
 #[derive(Clone, Copy, Debug, PartialEq, Eq)]
 pub struct Refused {
     /// Why.

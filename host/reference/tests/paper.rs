@@ -4,8 +4,8 @@ use reference::event::{HIZ_PIN, IINDPM};
 use reference::number;
 use reference::state::phase;
 use reference::{
-    band, read_register, record, report, runlog, Band, Event, Model, Profile, Reading, Refusal,
-    Sample, Setting, State,
+    band, partlog, read_register, record, report, runlog, Band, Event, Model, Profile, Reading,
+    Refusal, Refused, Sample, Setting, State,
 };
 
 const EXAMPLE: [u8; 28] = [
@@ -167,7 +167,34 @@ fn stamps_may_be_an_hour_ahead() {
 #[test]
 fn small_spellings() {
     assert_eq!(number::fold(-1), 1);
-    assert_eq!(number::parse(&[0x80, 0x00]), Err(Refusal::NotShortest));
+    let refused = Refused { code: Refusal::NotShortest, place: 1 };
+    assert_eq!(number::parse(&[0x80, 0x00]), Err(refused));
+}
+
+/// "the offset of the byte that decided it: the log's end for 1, the last
+/// group for 2, the fifth group for 3", in the program's last line and in the
+/// two-log answer; "Refusals 4 and 14 keep the record's start".
+#[test]
+fn the_byte_that_decided_it() {
+    let rows: [(&[u8], u32, usize); 7] = [
+        (&[5], 1, 29),
+        (&[5, 0xE8, 0x07, 0xE0], 1, 32),
+        (&[2, 0x81, 0x80, 0x00, 7], 2, 31),
+        (&[2, 9, 0x80, 0x80, 0x80, 0x80, 0x00], 2, 34),
+        (&[2, 9, 0x80, 0x80, 0x80, 0x80, 0x10, 7], 3, 34),
+        (&[2, 0xFF, 0xFF, 0xFF, 0xFF, 0xFF], 3, 33),
+        (&[8, 0x80, 0x00], 4, 28),
+    ];
+    let longer = [EXAMPLE.as_slice(), &[7; 20]].concat();
+    for (end, code, place) in rows {
+        let log = [EXAMPLE.as_slice(), end].concat();
+        assert!(runlog(&log).ends_with(&format!("\nend 2 {code} {place}\n")), "{end:02X?}");
+        let refused = format!("refused {code} 3 {place}\n");
+        assert_eq!(partlog(&log, &longer), refused);
+        assert_eq!(partlog(&longer, &log), refused);
+    }
+    let other = [EXAMPLE.as_slice(), &[2, 1, 1]].concat();
+    assert_eq!(partlog(&longer, &other), "refused 14 3 28\n");
 }
 
 #[test]

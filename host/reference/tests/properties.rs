@@ -6,11 +6,10 @@ use reference::generate::{
     any_event, any_log, any_state, damaged_log, events_of, log_pair, plausible_events,
     plausible_log, spoiled_state, times, Rng,
 };
-use reference::part::{part, Answer, Which};
 use reference::registers;
 use reference::{
-    band, may_hold, read_register, record, report, runlog, stat, statelog, Event, Model, Reading,
-    Refusal, State, Step,
+    band, may_hold, read_register, record, report, runlog, stat, statelog, Event, Model, Reader,
+    Reading, Refusal, State, Step,
 };
 
 const SEEDS: u64 = 300;
@@ -103,7 +102,7 @@ fn records_read_back() {
             let Reading::Refused(refused) = record::read(&bytes[..short], 0) else {
                 panic!("{event:?} cut to {short}");
             };
-            assert_eq!((refused.code, refused.place), (Refusal::EndsInside, 0));
+            assert_eq!((refused.code, refused.place), (Refusal::EndsInside, short));
         }
         let mut room = vec![0xA5; bytes.len() + 2];
         assert_eq!(record::write(&mut room, &event), Ok(bytes.len()));
@@ -203,6 +202,19 @@ fn plausible_logs_reach_every_part_of_the_model() {
     }
 }
 
+/// The last line's code and offset, by a reader of its own: the log's end, or
+/// a refusal and its place.
+fn ending(log: &[u8]) -> (u32, usize) {
+    let mut reader = Reader::new(log);
+    loop {
+        match reader.read() {
+            Reading::Record { .. } => {}
+            Reading::Refused(refused) => return (refused.code.number(), refused.place),
+            Reading::End => return (0, log.len()),
+        }
+    }
+}
+
 #[test]
 fn damaged_logs_reach_every_refusal_of_the_reader() {
     let mut codes = BTreeSet::new();
@@ -214,6 +226,8 @@ fn damaged_logs_reach_every_refusal_of_the_reader() {
         assert_eq!((words[0], words.len()), ("end", 4));
         let records: usize = words[1].parse().expect("a count");
         assert_eq!(printed.lines().count(), records + 1);
+        let (code, offset) = ending(&log);
+        assert_eq!(words[2..], [code.to_string(), offset.to_string()]);
         codes.insert(words[2].to_string());
         assert!(statelog(&log).lines().count() <= records);
     }
@@ -226,33 +240,4 @@ fn any_logs_run() {
         let log = any_log(seed, RECORDS);
         assert!(runlog(&log).ends_with(&format!("end {RECORDS} 0 {}\n", log.len())));
     }
-}
-
-#[test]
-fn pairs_reach_every_answer() {
-    let mut codes = BTreeSet::new();
-    let mut sides = [false; 3];
-    for seed in 0..times(SEEDS) {
-        let (first, second) = log_pair(seed, 20);
-        let parting = part(&first, &second);
-        match parting.answer {
-            Answer::Rest { which: Which::First, place } => {
-                assert!(second.len() == place && first[..place] == second);
-                assert_eq!(parting.rest, &first[place..]);
-                sides[usize::from(first.len() == place)] = true;
-            }
-            Answer::Rest { which: Which::Second, place } => {
-                assert!(first.len() == place && second[..place] == first);
-                assert_eq!(parting.rest, &second[place..]);
-                sides[2] = true;
-            }
-            Answer::Refused { code, record, place } => {
-                assert!(first[..place] == second[..place] && parting.rest.is_empty());
-                assert_eq!(events_of(&first[..place]).len() + 1, record);
-                codes.insert(code.number());
-            }
-        }
-    }
-    assert_eq!(sides, [true; 3]);
-    assert_eq!(codes, BTreeSet::from([1, 2, 3, 4, 14]));
 }

@@ -3,7 +3,8 @@
 //!
 //! * [`plausible_log`]: a charger's days, with values at every threshold.
 //! * [`any_log`]: valid records of any numbers at all.
-//! * [`damaged_log`]: a plausible log with bytes changed, cut or put in.
+//! * [`damaged_log`]: a plausible log with bytes changed, cut or put in, or a
+//!   number misspelled.
 //! * [`log_pair`]: two logs that share a start.
 //! * [`any_state`], [`spoiled_state`]: models handed in from outside.
 

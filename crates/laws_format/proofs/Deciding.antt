@@ -1,0 +1,194 @@
+-- Whoever keeps the format tells, with each refusal, the place that decided it, and no other place did.
+use Prim.Native.Nat.{ℕ, suc, _+_, _-_, _≤_, _<_}
+use mathlib.Core.Path.{_≡_, refl, sym, ap, _∙_, subst}
+use mathlib.Core.List.{List, [], _∷_, _++_, append-assoc, append-nil}
+use mathlib.Core.Logic.{_≢_}
+use native.Mathlib.Omega.{arith}
+use native.Mathlib.Decide.{decLt, ℕ-discrete}
+use lib.ListN.{length, take, drop, getD, length-append, length-drop, drop-of-length-le, take-append-drop}
+use lib.Seq.{length-take-le, drop-append-le, drop-append-seam, drop-at, take-add, drop-drop, getD-drop}
+use Rattle.log_number.specs.Promises.{Bytes}
+use Rattle.log_number.proofs.Strings.{bytes-take, bytes-both}
+use Rattle.log_event.specs.declared.Event.{Event}
+use Rattle.log_record.specs.Records.{met, refused, end}
+use Rattle.log_record.proofs.ItemLaws.{bytes-drop}
+use Rattle.laws_format.specs.Unreadable.{NoRecord, LogRow}
+use Rattle.laws_format.specs.Readers.{Reader, Reads}
+use Rattle.laws_format.specs.Ours.{ourRead}
+use Rattle.laws_format.specs.Deciding.{Decided, by-byte, by-end, OneDecided, refusedWith, numberBy, NumberStarts, FormatDecides, OnlyPlaces}
+use Rattle.laws_format.proofs.Keeping.{our-reads}
+use Rattle.laws_format.proofs.Only.{stands}
+use Rattle.laws_format.proofs.RecordsDecided.{record-within, record-ends, record-starts, record-enough, record-cut, record-zero, record-fifth}
+use Rattle.laws_format.proofs.RecordsBegun.{record-begins}
+
+-- ---- one place alone
+-- what follows a byte that decided is one log of many
+from-byte : (number : List ℕ → ℕ) (log more : List ℕ) (p : ℕ) → Bytes log → Bytes more
+    → ((rest : List ℕ) → Bytes rest → number (take (suc p) log ++ rest) ≡ number log) → number (log ++ more) ≡ number log
+from-byte number log more p bs bm enough =
+    let whole : log ++ more ≡ take (suc p) log ++ (drop (suc p) log ++ more) = ap (λ l. l ++ more) (sym (take-append-drop (suc p) log)) ∙ append-assoc (take (suc p) log) (drop (suc p) log) more in
+    ap number whole ∙ enough (drop (suc p) log ++ more) (bytes-both (drop (suc p) log) more (bytes-drop log (suc p) bs) bm)
+
+-- a log cut off behind a byte that decided has its number
+not-later : (number : List ℕ → ℕ) (log : List ℕ) (p q : ℕ) → Bytes log → p < q → q < length log
+    → ((rest : List ℕ) → Bytes rest → number (take (suc p) log ++ rest) ≡ number log) → number (take q log) ≡ number log
+not-later number log p q bs later inside enough =
+    let far : suc p + (q - suc p) ≡ q = omega arith in
+    let parts : take q log ≡ take (suc p) log ++ take (q - suc p) (drop (suc p) log) = ap (λ k. take k log) (sym far) ∙ take-add (suc p) (q - suc p) log in
+    ap number parts ∙ enough _ (bytes-take (q - suc p) (drop (suc p) log) (bytes-drop log (suc p) bs))
+
+pub one-decided : OneDecided
+one-decided number log bs p q (by-end here more bm other) (by-end there more' bm' other') = here ∙ sym there
+one-decided number log bs p q (by-end here more bm other) (by-byte inside enough needed) = absurd (other (from-byte number log more q bs bm enough))
+one-decided number log bs p q (by-byte inside enough needed) (by-end there more bm other) = absurd (other (from-byte number log more p bs bm enough))
+one-decided number log bs p q (by-byte in-p enough needed) (by-byte in-q enough' needed') = go (decLt p q) (decLt q p)
+  where
+    go : Dec (p < q) → Dec (q < p) → p ≡ q
+    go (yes l) d = absurd (needed' (not-later number log p q bs l in-q enough))
+    go (no l) (yes m) = absurd (needed (not-later number log q p bs m in-p enough'))
+    go (no l) (no m) = omega arith
+
+-- ---- a record at a place of a log
+from-there : (log : List ℕ) (at m : ℕ) (rest : List ℕ) → at ≤ length log → drop at (take (at + m) log ++ rest) ≡ take m (drop at log) ++ rest
+from-there log at m rest h =
+    ap (λ l. drop at (l ++ rest)) (take-add at m log) ∙ ap (drop at) (append-assoc (take at log) (take m (drop at log)) rest)
+    ∙ drop-at (take at log) (take m (drop at log) ++ rest) at (length-take-le at log h)
+
+module _ (read : Reader) (d : Reads read) (log : List ℕ) (bs : Bytes log) (at n place : ℕ) (told : read log at ≡ refused n place) where
+  row : LogRow n log at place
+  row = d .refuses log bs at n place .0 told
+
+  inside : at < length log
+  inside = omega (arith, record-within (row .row) .2, length-drop at log)
+
+  before-end : (place ≤ length log) × (n ≢ 1 → place < length log)
+  before-end =
+      let k = record-within (row .row) in
+      (omega (arith, k .0, row .counts, length-drop at log), λ other. omega (arith, k .1 other, row .counts, length-drop at log))
+
+  end-for-one : n ≡ 1 → place ≡ length log
+  end-for-one is = let k = record-ends (row .row) is in omega (arith, inside, row .counts, length-drop at log)
+
+  one-at-end : place ≡ length log → n ≡ 1
+  one-at-end e = go (ℕ-discrete n 1)
+    where
+      go : Dec (n ≡ 1) → n ≡ 1
+      go (yes is) = is
+      go (no other) = absurd (omega (arith, before-end .1 other))
+
+  start-for-four : n ≡ 4 → place ≡ at
+  start-for-four is = omega (arith, row .counts, record-starts (row .row) is)
+
+  same-refusal : n ≢ 1 → (rest : List ℕ) → Bytes rest → read (take (suc place) log ++ rest) at ≡ refused n place
+  same-refusal other rest br =
+      let far : suc place ≡ at + suc (row .after) = omega (arith, row .counts) in
+      let there : drop at (take (suc place) log ++ rest) ≡ take (suc (row .after)) (drop at log) ++ rest =
+      ap (λ k. drop at (take k log ++ rest)) far ∙ from-there log at (suc (row .after)) rest (omega (arith, inside)) in
+      let bytes = bytes-both (take (suc place) log) rest (bytes-take (suc place) log bs) br in
+      d .refuses _ bytes at n place .1 (record {
+        after = row .after;
+        row = subst (λ l. NoRecord n l (row .after)) (sym there) (record-enough (row .row) other rest);
+        counts = row .counts;
+      })
+
+  cut-off-before : n ≢ 4 → read (take place log) at ≡ refused 1 place
+  cut-off-before other =
+      let there : drop at (take place log) ≡ take (row .after) (drop at log) =
+      ap (λ l. drop at l) (ap (λ k. take k log) (row .counts) ∙ sym (append-nil (take (at + row .after) log)))
+      ∙ from-there log at (row .after) [] (omega (arith, inside)) ∙ append-nil (take (row .after) (drop at log)) in
+      d .refuses _ (bytes-take place log bs) at 1 place .1 (record {
+        after = row .after;
+        row = subst (λ l. NoRecord 1 l (row .after)) (sym there) (record-cut (row .row) other);
+        counts = row .counts;
+      })
+
+  grows : n ≡ 1 → (more : List ℕ) × Bytes more × (e : Event) × (read (log ++ more) at ≡ met e (length (log ++ more)))
+  grows is =
+      let b = record-begins (row .row) is (bytes-drop log at bs) in
+      let spelling : List ℕ = drop at log ++ b .more in
+      let next : ℕ = length (log ++ b .more) in
+      let far : next ≡ at + length spelling = omega (arith, inside, length-append log (b .more), length-append (drop at log) (b .more), length-drop at log) in
+      let whole : drop at (log ++ b .more) ≡ spelling = drop-append-le at log (b .more) (omega (arith, inside)) in
+      let over : drop next (log ++ b .more) ≡ [] = drop-of-length-le (log ++ b .more) {i = next} (omega arith) in
+      let start : drop at (log ++ b .more) ≡ spelling ++ drop next (log ++ b .more) = whole ∙ sym (ap (λ l. spelling ++ l) over ∙ append-nil spelling) in
+      (b .more, b .bytes, b .event, stands read d (log ++ b .more) at (b .event) next (record { spelling = spelling; spells = b .spells; long = far; start = start }))
+
+  zero-byte : n ≡ 2 → (getD log place 1 ≡ 0) × (128 ≤ getD log (place - 1) 0)
+  zero-byte is =
+      let k = record-zero (row .row) is in
+      let before-it : place - 1 ≡ at + (row .after - 1) = omega (arith, k .0, row .counts) in
+      (ap (λ p. getD log p 1) (row .counts) ∙ sym (getD-drop at log (row .after) 1) ∙ k .1, rw (before-it, ← getD-drop at log (row .after - 1) 0) (k .2))
+
+  fifth-byte : n ≡ 3 → (start : ℕ) × NumberStarts log at start × (place ≡ start + 4)
+  fifth-byte is =
+      let k = record-fifth (row .row) is in
+      let start : ℕ = at + suc (length (k .bytes)) in
+      let left : drop start log ≡ k .left =
+      sym (drop-drop (suc (length (k .bytes))) at log) ∙ ap (drop (suc (length (k .bytes)))) (k .stands) ∙ drop-append-seam (k .bytes) (k .left) in (
+        start,
+        record {
+          event = k .event;
+          kind = k .kind;
+          all = k .all;
+          listed = k .listed;
+          before = k .before;
+          bytes = k .bytes;
+          spelled = k .spelled;
+          more = k .more;
+          stands = k .stands ∙ ap (λ l. k .kind ∷ (k .bytes ++ l)) (sym left);
+          counts = refl;
+        },
+        omega (arith, row .counts, k .counts),
+      )
+
+  number-is : numberBy read at log ≡ n
+  number-is = ap refusedWith told
+
+  -- without the byte another number is given: 1; and for 4, none
+  needed : n ≢ 1 → numberBy read at (take place log) ≢ numberBy read at log
+  needed other same = go (ℕ-discrete n 4)
+    where
+      go : Dec (n ≡ 4) → ⊥
+      go (no far) = other (sym number-is ∙ sym same ∙ ap refusedWith (cut-off-before far))
+      go (yes is) =
+          let long : length (take place log) ≡ place = length-take-le place log (before-end .0) in
+          let over : read (take place log) at ≡ end = d .ends (take place log) (bytes-take place log bs) at .1 (omega (arith, start-for-four is)) in
+          let none : n ≡ 0 = sym number-is ∙ sym same ∙ ap refusedWith over in
+          omega arith
+
+  decided-there : Decided (numberBy read at) log place
+  decided-there = go (ℕ-discrete n 1)
+    where
+      go : Dec (n ≡ 1) → Decided (numberBy read at) log place
+      go (yes is) =
+          let g = grows is in
+          by-end (end-for-one is) (g .0) (g .1) (λ same. let z : 0 ≡ n = sym (ap refusedWith (g .3)) ∙ same ∙ number-is in omega arith)
+      go (no other) =
+          by-byte (before-end .1 other) (λ rest br. ap refusedWith (same-refusal other rest br) ∙ sym number-is) (needed other)
+
+pub format-decides : FormatDecides
+format-decides read d = record {
+  decided = λ log bs at n place told. decided-there read d log bs at n place told;
+  ends = λ log bs at n place told. (end-for-one read d log bs at n place told, one-at-end read d log bs at n place told);
+  goes-on = λ log bs at place told. grows read d log bs at 1 place told refl;
+  zero = λ log bs at place told. zero-byte read d log bs at 2 place told refl;
+  fifth = λ log bs at place told. fifth-byte read d log bs at 3 place told refl;
+  start = λ log bs at place told. start-for-four read d log bs at 4 place told refl;
+  same = λ log bs at n place told. same-refusal read d log bs at n place told;
+  cut = λ log bs at n place told. cut-off-before read d log bs at n place told;
+}
+
+-- ---- and no other reader's places did
+same-numbers : (f g : List ℕ → ℕ) → ((l : List ℕ) → Bytes l → f l ≡ g l) → (log : List ℕ) (place : ℕ) → Bytes log → Decided f log place → Decided g log place
+same-numbers f g are log place bs (by-byte inside enough need) =
+    by-byte inside
+    (λ rest br. sym (are _ (bytes-both (take (suc place) log) rest (bytes-take (suc place) log bs) br)) ∙ enough rest br ∙ are log bs)
+    (λ same. need (are _ (bytes-take place log bs) ∙ same ∙ sym (are log bs)))
+same-numbers f g are log place bs (by-end there more bm other) =
+    by-end there more bm (λ same. other (are _ (bytes-both log more bs bm) ∙ same ∙ sym (are log bs)))
+
+pub only-places : OnlyPlaces
+only-places read are decide log bs at n p q mine ours =
+    one-decided (numberBy ourRead at) log bs p q
+    (same-numbers (numberBy read at) (numberBy ourRead at) (λ l bl. are l bl at) log p bs (decide log bs at n p mine))
+    (format-decides ourRead our-reads .decided log bs at n q ours)
