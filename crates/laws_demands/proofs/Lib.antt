@@ -5,6 +5,7 @@ mod Logs
 mod Texts
 mod Against
 mod Places
+pub mod Deciding
 mod Days
 pub mod HoldsFirst
 pub mod HoldsSecond

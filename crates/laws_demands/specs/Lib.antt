@@ -2,6 +2,7 @@
 pub mod Product
 pub mod First
 pub mod Printed
+pub mod Deciding
 pub mod Second
 pub mod Third
 pub mod Ours
