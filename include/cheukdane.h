@@ -27,7 +27,7 @@
  * Stack, in bytes along the deepest chain of calls, of the module's object code for aarch64 (`make bench` prints them
  * for the machine at hand). No call calls itself.
  *
- *     play   2,240    event    2,208    replay 2,128
+ *     play   2,256    event    2,224    replay 2,160
  *     report   816    register   608
  *     compare  480    write      160
  *     off      192    rules        0

@@ -55,4 +55,4 @@ every-row = (refl, (refl, (refl, (refl, (refl, (refl, (refl, (refl, (refl, (refl
 
 pub every-request : EveryRequest
 unfolding requested runText linesText wholeOf endText headedText spellEvent numberAt lineText numbersOf pageOf startWalk stepOf spellItems readNumber decimal walkOf heldOf reportOf firstOf stateOk movedOf readGroups decimalBy recordAt settingNumbers fastCurrent chargeVoltageOf inputLimitOf profileOk settingsOk registersOk cycleOk watchdogOk sampleOk setOf observeOf spell readRecord chargeClampOf shareOf baseOf inPack cutOf mayHold finishOf storeOf writeOf observedOf resetOf groups metBy packClampOf settleOf startState shownOf rangeOf edgesOf merged pulseOf writtenTo countedOf expiredOf clearedIf timesOf unitsOf startSettings resetRegisters lineOf readItems forcedOf latchesOf bandOf settledOf testsOf fieldsAt ranges seenOf recounted withByte takenOf byteAt regulatedOf startVreg startIchg startVsysmin flagsNumber eventOf faultOf shortOf lowOf packOverOf cycleOf phaseOf permittedOf suspendsOf belowRecharge taperOf endingOf fields reachedOf signedOf belowShare clearsOf endsOf judgedOf restartsOf turnedBy changeOf followedOf writtenOf turnOf profileInRange sampleInRange seenOn
-every-request = (refl, tt)
+every-request = (refl, (refl, (refl, (refl, (refl, (refl, (refl, tt)))))))

@@ -23,6 +23,15 @@ requested =
     -- R-1: taper; done, though 7,890 is below 97% of 8,400; still done; back in normal the band alone restarts the cycle
     row (log (warmStart ++ warmSamples))
     (bytesOf "1 1 0 0 0 0 3300 1 32\n2 3 0 0 0 0 3300 0 32\n3 5 0 4 1500 7900 3300 1 225\n4 5 0 5 0 0 3300 1 225\n5 5 0 5 0 0 3300 0 225\n6 5 0 3 1500 8400 3300 1 225\nend 6 0 70\n")
+    -- R-4: "the log's end for 1, the last group for 2, the fifth group for 3": a set whose first number is cut off, or ends with a zero group; whose second is too large, by its value or by
+    -- five groups with the high bit
+    ∷ row (log (0x02 ∷ 0x80 ∷ [])) (bytesOf "end 0 1 2\n")
+    ∷ row (log (0x02 ∷ 0x80 ∷ 0x00 ∷ [])) (bytesOf "end 0 2 2\n")
+    ∷ row (log (0x02 ∷ 0x01 ∷ 0x80 ∷ 0x80 ∷ 0x80 ∷ 0x80 ∷ 0x10 ∷ 0x00 ∷ [])) (bytesOf "end 0 3 6\n")
+    ∷ row (log (0x02 ∷ 0x01 ∷ 0x80 ∷ 0x80 ∷ 0x80 ∷ 0x80 ∷ 0x80 ∷ [])) (bytesOf "end 0 3 6\n")
+    -- "Refusals 4 and 14 keep the record's start", and so does what follows a record: a service, and then a kind that isn't one
+    ∷ row (log (0x06 ∷ 0x08 ∷ 0x80 ∷ [])) (bytesOf "1 6 6 0 0 0 0 0 0\nend 1 4 1\n")
+    ∷ row (log (0x06 ∷ 0x02 ∷ 0x80 ∷ 0x00 ∷ [])) (bytesOf "1 6 6 0 0 0 0 0 0\nend 1 2 3\n")
     ∷ []
 
 abbrev pub EveryRequest : Type 0
