@@ -1,5 +1,5 @@
 -- What is printed of a log, in numbers by any step, report and reader, and the text of such numbers: "each record gives: number, kind, answer (0 or refusal), phase, current, voltage, input limit, pulse, flags" and
--- "Last: `end`, records read, code (0 or 1-4), offset of the log's end or the unreadable record."
+-- "Last: `end`, records read, code (0 or 1-4), offset of the log's end or the unreadable record": of that record, what decided it, as the reader tells it (02, R-4).
 use Prim.Native.Nat.{ℕ, zero, suc}
 use mathlib.Core.List.{List, [], _∷_, _++_}
 use lib.ListN.{length}

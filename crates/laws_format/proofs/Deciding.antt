@@ -4,8 +4,8 @@ use mathlib.Core.Path.{_≡_, refl, sym, ap, _∙_, subst}
 use mathlib.Core.List.{List, [], _∷_, _++_, append-assoc, append-nil}
 use mathlib.Core.Logic.{_≢_}
 use native.Mathlib.Omega.{arith}
-use native.Mathlib.Decide.{decLt, ℕ-discrete}
-use lib.ListN.{length, take, drop, getD, length-append, length-drop, drop-of-length-le, take-append-drop}
+use native.Mathlib.Decide.{ℕ-discrete}
+use lib.ListN.{length, take, drop, getD, length-append, length-drop, drop-of-length-le}
 use lib.Seq.{length-take-le, drop-append-le, drop-append-seam, drop-at, take-add, drop-drop, getD-drop}
 use Rattle.log_number.specs.Promises.{Bytes}
 use Rattle.log_number.proofs.Strings.{bytes-take, bytes-both}
@@ -15,40 +15,13 @@ use Rattle.log_record.proofs.ItemLaws.{bytes-drop}
 use Rattle.laws_format.specs.Unreadable.{NoRecord, LogRow}
 use Rattle.laws_format.specs.Readers.{Reader, Reads}
 use Rattle.laws_format.specs.Ours.{ourRead}
-use Rattle.laws_format.specs.Deciding.{Decided, by-byte, by-end, OneDecided, refusedWith, numberBy, NumberStarts, FormatDecides, OnlyPlaces}
+use Rattle.laws_format.specs.Deciding.{Decided, by-byte, by-end, refusedWith, numberBy, NumberStarts, FormatDecides, OnlyPlaces}
 use Rattle.laws_format.proofs.Keeping.{our-reads}
 use Rattle.laws_format.proofs.Only.{stands}
+use Rattle.laws_format.proofs.OnePlace.{one-decided, same-numbers}
 use Rattle.laws_format.proofs.RecordsDecided.{record-within, record-ends, record-starts, record-enough, record-cut, record-zero, record-fifth}
 use Rattle.laws_format.proofs.RecordsBegun.{record-begins}
 
--- ---- one place alone
--- what follows a byte that decided is one log of many
-from-byte : (number : List ℕ → ℕ) (log more : List ℕ) (p : ℕ) → Bytes log → Bytes more
-    → ((rest : List ℕ) → Bytes rest → number (take (suc p) log ++ rest) ≡ number log) → number (log ++ more) ≡ number log
-from-byte number log more p bs bm enough =
-    let whole : log ++ more ≡ take (suc p) log ++ (drop (suc p) log ++ more) = ap (λ l. l ++ more) (sym (take-append-drop (suc p) log)) ∙ append-assoc (take (suc p) log) (drop (suc p) log) more in
-    ap number whole ∙ enough (drop (suc p) log ++ more) (bytes-both (drop (suc p) log) more (bytes-drop log (suc p) bs) bm)
-
--- a log cut off behind a byte that decided has its number
-not-later : (number : List ℕ → ℕ) (log : List ℕ) (p q : ℕ) → Bytes log → p < q → q < length log
-    → ((rest : List ℕ) → Bytes rest → number (take (suc p) log ++ rest) ≡ number log) → number (take q log) ≡ number log
-not-later number log p q bs later inside enough =
-    let far : suc p + (q - suc p) ≡ q = omega arith in
-    let parts : take q log ≡ take (suc p) log ++ take (q - suc p) (drop (suc p) log) = ap (λ k. take k log) (sym far) ∙ take-add (suc p) (q - suc p) log in
-    ap number parts ∙ enough _ (bytes-take (q - suc p) (drop (suc p) log) (bytes-drop log (suc p) bs))
-
-pub one-decided : OneDecided
-one-decided number log bs p q (by-end here more bm other) (by-end there more' bm' other') = here ∙ sym there
-one-decided number log bs p q (by-end here more bm other) (by-byte inside enough needed) = absurd (other (from-byte number log more q bs bm enough))
-one-decided number log bs p q (by-byte inside enough needed) (by-end there more bm other) = absurd (other (from-byte number log more p bs bm enough))
-one-decided number log bs p q (by-byte in-p enough needed) (by-byte in-q enough' needed') = go (decLt p q) (decLt q p)
-  where
-    go : Dec (p < q) → Dec (q < p) → p ≡ q
-    go (yes l) d = absurd (needed' (not-later number log p q bs l in-q enough))
-    go (no l) (yes m) = absurd (needed (not-later number log q p bs m in-p enough'))
-    go (no l) (no m) = omega arith
-
--- ---- a record at a place of a log
 from-there : (log : List ℕ) (at m : ℕ) (rest : List ℕ) → at ≤ length log → drop at (take (at + m) log ++ rest) ≡ take m (drop at log) ++ rest
 from-there log at m rest h =
     ap (λ l. drop at (l ++ rest)) (take-add at m log) ∙ ap (drop at) (append-assoc (take at log) (take m (drop at log)) rest)
@@ -177,15 +150,6 @@ format-decides read d = record {
   same = λ log bs at n place told. same-refusal read d log bs at n place told;
   cut = λ log bs at n place told. cut-off-before read d log bs at n place told;
 }
-
--- ---- and no other reader's places did
-same-numbers : (f g : List ℕ → ℕ) → ((l : List ℕ) → Bytes l → f l ≡ g l) → (log : List ℕ) (place : ℕ) → Bytes log → Decided f log place → Decided g log place
-same-numbers f g are log place bs (by-byte inside enough need) =
-    by-byte inside
-    (λ rest br. sym (are _ (bytes-both (take (suc place) log) rest (bytes-take (suc place) log bs) br)) ∙ enough rest br ∙ are log bs)
-    (λ same. need (are _ (bytes-take place log bs) ∙ same ∙ sym (are log bs)))
-same-numbers f g are log place bs (by-end there more bm other) =
-    by-end there more bm (λ same. other (are _ (bytes-both log more bs bm) ∙ same ∙ sym (are log bs)))
 
 pub only-places : OnlyPlaces
 only-places read are decide log bs at n p q mine ours =

@@ -7,6 +7,7 @@ pub mod Only
 mod NumbersDecided
 pub mod RecordsDecided
 pub mod RecordsBegun
+pub mod OnePlace
 pub mod Deciding
 pub mod Logs
 pub mod Examples

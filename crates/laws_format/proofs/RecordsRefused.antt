@@ -1,4 +1,4 @@
--- This product gives 1 to 4 at a record's start exactly when the paper's rows say so.
+-- This product gives 1 to 4 for what stands at a place, and tells where, exactly when the paper's rows say so.
 use Prim.Native.Nat.{ℕ, suc, _+_, _≤_, _<_}
 use mathlib.Core.Path.{_≡_, refl, sym, ap, _∙_, subst}
 use mathlib.Core.Bool.{Bool, true, false}

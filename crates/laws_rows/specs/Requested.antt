@@ -29,7 +29,7 @@ requested =
     ∷ row (log (0x02 ∷ 0x80 ∷ 0x00 ∷ [])) (bytesOf "end 0 2 2\n")
     ∷ row (log (0x02 ∷ 0x01 ∷ 0x80 ∷ 0x80 ∷ 0x80 ∷ 0x80 ∷ 0x10 ∷ 0x00 ∷ [])) (bytesOf "end 0 3 6\n")
     ∷ row (log (0x02 ∷ 0x01 ∷ 0x80 ∷ 0x80 ∷ 0x80 ∷ 0x80 ∷ 0x80 ∷ [])) (bytesOf "end 0 3 6\n")
-    -- "Refusals 4 and 14 keep the record's start", and so does what follows a record: a service, and then a kind that isn't one
+    -- "Refusals 4 and 14 keep the record's start": a service, and then a byte that is no kind's; the same before a zero group
     ∷ row (log (0x06 ∷ 0x08 ∷ 0x80 ∷ [])) (bytesOf "1 6 6 0 0 0 0 0 0\nend 1 4 1\n")
     ∷ row (log (0x06 ∷ 0x02 ∷ 0x80 ∷ 0x00 ∷ [])) (bytesOf "1 6 6 0 0 0 0 0 0\nend 1 2 3\n")
     ∷ []
