@@ -8,6 +8,7 @@ mod NumbersDecided
 pub mod RecordsDecided
 pub mod RecordsBegun
 pub mod OnePlace
+pub mod NumberDeciding
 pub mod Deciding
 pub mod Logs
 pub mod Examples

@@ -5,6 +5,9 @@ use mathlib.Core.Path.{_≡_}
 use mathlib.Core.List.{List, _∷_, _++_}
 use mathlib.Core.Logic.{_↔_, _≢_}
 use lib.ListN.{length, take, drop, getD}
+use Rattle.base.specs.Found.{Found, found}
+use Rattle.base.specs.Found as reading
+use Rattle.log_number.specs.Number.{readNumber}
 use Rattle.log_number.specs.Promises.{Bytes}
 use Rattle.log_event.specs.declared.Event.{Event}
 use Rattle.log_record.specs.Records.{Met, met, refused, end}
@@ -24,7 +27,15 @@ pub data Decided (number : List ℕ → ℕ) (log : List ℕ) (place : ℕ) : Ty
 abbrev pub OneDecided : Type 0
 OneDecided = (number : List ℕ → ℕ) (log : List ℕ) → Bytes log → (p q : ℕ) → Decided number log p → Decided number log q → p ≡ q
 
--- the number that a reader refuses with; 0 for a record and for the log's end
+-- the number reader tells that place, of every byte string: 0 stands for a number that can be read
+abbrev pub numberRefused : Found ℕ → ℕ
+numberRefused (found n next) = 0
+numberRefused (reading.refused n place) = n
+
+abbrev pub NumberDecides : Type 0
+NumberDecides = (bytes : List ℕ) → Bytes bytes → (n place : ℕ) → readNumber bytes ≡ reading.refused n place → Decided (λ s. numberRefused (readNumber s)) bytes place
+
+-- the number that a reader of records refuses with; 0 for a record and for the log's end
 abbrev pub refusedWith : Met → ℕ
 refusedWith (met e next) = 0
 refusedWith (refused n place) = n

@@ -13,6 +13,7 @@ use Rattle.log_number.specs.Promises.{Bytes}
 use Rattle.log_event.specs.Items.{numbers}
 use Rattle.log_event.specs.Kinds.{kindByte, shapesOf, KindRow, kinds, rowFor}
 use Rattle.log_event.specs.declared.Event.{Event}
+use Rattle.state_parts.specs.declared.state.Model.the-variants.{Off}
 use Rattle.log_event.proofs.Table.{own-row}
 use Rattle.log_record.specs.Records.{Met}
 use Rattle.c_words.specs.Words.{wordBytes, bytesOf, wordAt, wordsIn}
@@ -27,6 +28,7 @@ use Rattle.laws_format.proofs.Only.{ahead, one-answer}
 use Rattle.laws_heads.specs.Given.{shownBytes, EventGives, given, no-room, no-kind, not-as-many, at-end, PlayGives, played, no-room-shown, no-record, Ending, ReplayGives, stops, goes-on, OneList, EveryInputGives}
 use Rattle.laws_heads.specs.Given as gives
 use Rattle.laws_heads.proofs.Givens.{event-is, play-is, all-read}
+use Rattle.laws_heads.proofs.Replaying.{ended}
 
 -- ---- words of bytes are the words of their numbers
 four-back : (a b c d : ℕ) → a < 256 → b < 256 → c < 256 → d < 256 → wordBytes (a + b * 256 + c * 65536 + d * 16777216) ≡ a ∷ b ∷ c ∷ d ∷ []
@@ -104,6 +106,12 @@ module _ (log : List ℕ) (bs : Bytes log) where
       go (unreadable n decided row) more = ([], (_, stops place n decided (gives.unreadable n decided row)))
       go (over late) more = ([], (_, stops place 0 place (at-end late)))
 
+-- what a walk over the log comes to has one ending
+one-ending : (log : List ℕ) → Bytes log → {place : ℕ} {es fs : List Event} (a b : Ending) → ReplayGives log place es a → ReplayGives log place fs b → a ≡ b
+one-ending log bs a b g h =
+    let same = sym (ended log bs g Off 0 (omega arith)) ∙ ended log bs h Off 0 (omega arith) in
+    λ i. record { code = same i .code; told = same i .place; next = same i .walk .place }
+
 -- two lists that are one thing are one
 alone : {gives : List Event → Type 0} {is : List Event} → ((new : List Event) → gives new → new ≡ is) → (new : List Event) × gives new → OneList gives
 alone one found = (found .0, (found .1, λ other g. one other g ∙ sym (one (found .0) (found .1))))
@@ -113,4 +121,5 @@ every-input-gives = record {
   event = λ kind words bs room. alone (λ new g. event-is kind words room g) (some-event kind words bs room);
   play = λ log bs place room. alone (λ new g. play-is bs place room g) (some-play log bs place room);
   replay = λ log bs place. alone (λ new g. sym (all-read bs (g .1))) (some-replay log bs (length log) place (omega arith));
+  ends = λ log bs place es fs a b g h. one-ending log bs a b g h;
 }

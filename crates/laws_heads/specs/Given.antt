@@ -56,3 +56,5 @@ pub record EveryInputGives : Type 0 where
   pub event : (kind : ℕ) (words : List ℕ) → Bytes words → (room : ℕ) → OneList (EventGives kind words room)
   pub play : (log : List ℕ) → Bytes log → (place room : ℕ) → OneList (PlayGives log place room)
   pub replay : (log : List ℕ) → Bytes log → (place : ℕ) → OneList (λ es. (ending : Ending) × ReplayGives log place es ending)
+  -- and they end in one way alone
+  pub ends : (log : List ℕ) → Bytes log → (place : ℕ) (es fs : List Event) (a b : Ending) → ReplayGives log place es a → ReplayGives log place fs b → a ≡ b
