@@ -11,14 +11,16 @@ use Rattle.log_event.specs.declared.Event.{Event}
 use Rattle.state_parts.specs.declared.state.Model.{Model}
 use Rattle.step_event.specs.Steps.{stepOf}
 use Rattle.c_image.specs.Images.{imageOf, modelIn}
-use Rattle.c_calls.specs.Landing.{left}
+use Rattle.c_calls.specs.Landing.{Left, left}
 use Rattle.c_calls.specs.Replaying.{replayOf}
 use Rattle.c_calls.specs.Promises.{ourCalls}
+use Rattle.c_calls.specs.declared.answer.Replayed.{Replayed}
 use Rattle.laws_format.specs.Readers.{SpelledAt}
 use Rattle.laws_format.proofs.Only.{ahead}
 use Rattle.laws_third.specs.Demand.{ranBy}
 use Rattle.laws_heads.specs.Given.{NoRecordAt, Ending, ReplayGives, stops, goes-on}
-use Rattle.laws_heads.specs.Growing.{GoesOn, CatchesUp}
+use Rattle.laws_heads.specs.Second.{replayedWith}
+use Rattle.laws_heads.specs.Growing.{ComesTo, GoesOn, CatchesUp}
 use Rattle.laws_heads.proofs.Every.{every-input-gives}
 use Rattle.laws_heads.proofs.Replaying.{replay-is, loads-after}
 
@@ -75,6 +77,20 @@ no-image : (image bytes : List ℕ) (place n : ℕ) → modelIn image ≡ refuse
 unfolding replayOf
 no-image image bytes place n e = rw e
 
+-- both calls by their events, and the whole by those of both
+comes-to : (es fs : List Event) (m : Model) (a b : Ending) {whole first then : Left Replayed} → whole ≡ left (replayedWith (length (es ++ fs)) b) (imageOf (ranBy stepOf m (es ++ fs)))
+    → first ≡ left (replayedWith (length es) a) (imageOf (ranBy stepOf m es)) → then ≡ left (replayedWith (length fs) b) (imageOf (ranBy stepOf (ranBy stepOf m es) fs)) → ComesTo whole first then
+comes-to es fs m a b w f t =
+    rw (w, f, t)
+    (record {
+      image = ap imageOf (ran-after es fs m);
+      number = refl;
+      code = refl;
+      place = refl;
+      next = refl;
+      records = omega (arith, length-append es fs);
+    })
+
 pub catches-up : CatchesUp ourCalls
 catches-up image bytes more bs bm place = go (modelIn image) refl
   where
@@ -87,16 +103,9 @@ catches-up image bytes more bs bm place = go (modelIn image) refl
         let two = every-input-gives .replay (bytes ++ more) all (first .0 .next) in
         let then = two .1 .0 in
         let after = ranBy stepOf m (one .0) in
-        rw (
-          replay-is image m e bytes bs (first .1),
-          replay-is (imageOf after) after (loads-after image m e bytes bs (first .1)) (bytes ++ more) all (then .1),
-          replay-is image m e (bytes ++ more) all (onward bytes (bytes ++ more) (first .1) (λ k inside before. take-append-le k bytes more inside) (then .1)),
-        )
-        (record {
-          image = ap imageOf (ran-after (one .0) (two .0) m);
-          number = refl;
-          code = refl;
-          place = refl;
-          next = refl;
-          records = omega (arith, length-append (one .0) (two .0));
-        })
+        let early = replay-is image m e bytes bs (first .1) in
+        let late =
+        ap (λ (l : Left Replayed). replayOf (l .bytes) (bytes ++ more) (l .answer .next)) early
+        ∙ replay-is (imageOf after) after (loads-after image m e bytes bs (first .1)) (bytes ++ more) all (then .1) in
+        let whole = replay-is image m e (bytes ++ more) all (onward bytes (bytes ++ more) (first .1) (λ k inside before. take-append-le k bytes more inside) (then .1)) in
+        comes-to (one .0) (two .0) m (first .0) (then .0) whole early late

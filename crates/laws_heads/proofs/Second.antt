@@ -81,7 +81,7 @@ pub second-of-images : SecondOfImages ourCalls
 second-of-images = record {
   event = λ es image v kind words shown e g. event-is image (pastOf none es) (loads v) (lawful es) e shown kind words g;
   play = λ es image v log place shown e next k room. play-is image (pastOf none es) (loads v) (lawful es) e shown log place next k room;
-  unread = λ es image v log bs place number told shown k room. unread-is image (pastOf none es) (loads v) log bs place number told shown k room;
+  nothing-read = λ es image v log bs place number told shown k room. unread-is image (pastOf none es) (loads v) log bs place number told shown k room;
   replay = λ es image v log bs place new ending g. replayed image es (loads v) log bs place new ending g;
   report = λ es image v r p part room. report-is image part r room (loads v ∙ ap (λ h. accepted (modelOf h)) p);
   register = λ es image v address. registers image (pastOf none es) (loads v) (lawful es) address;

@@ -45,7 +45,7 @@ pub record SecondOfImages (calls : Calls) : Type 0 where
   pub play : (es : List Event) (image : List ℕ) → Moved calls es image → (log : List ℕ) (place : ℕ) (shown : List ℕ) (e : Event) (next : ℕ) → SpelledAt log place e next → shownBytes ≤ length shown
       → calls .play image log place shown ≡ playedOf e place next (landOf (outcomeOf (pastOf none es) e) image shown)
   -- what can't be read, or the log's end: its number and what is told of its place, and `next` is the given place; no byte is changed
-  pub unread : (es : List Event) (image : List ℕ) → Moved calls es image → (log : List ℕ) → Bytes log → (place number told : ℕ) (shown : List ℕ) → NoRecordAt log place number told
+  pub nothing-read : (es : List Event) (image : List ℕ) → Moved calls es image → (log : List ℕ) → Bytes log → (place number told : ℕ) (shown : List ℕ) → NoRecordAt log place number told
       → shownBytes ≤ length shown → calls .play image log place shown ≡ both (unread number told place) image shown
   -- a log's records from a place on: "The image is the model after them", how many they are, "the count has 32 bits and wraps", and how they end
   pub replay : (es : List Event) (image : List ℕ) → Moved calls es image → (log : List ℕ) → Bytes log → (place : ℕ) (new : List Event) (ending : Ending) → ReplayGives log place new ending

@@ -34,7 +34,7 @@ pub record Within (most : ℕ) (p : Passed) : Type 0 where
 module _ (bytes : List ℕ) (bs : Bytes bytes) where
   stops : (w : Walk) → w .place ≤ length bytes → (n p : ℕ) → (x : log.Met) → recordAt kinds bytes (w .place) ≡ x → (m : Model) → afterRead w x ≡ unreadable n p m → p ≤ length bytes
   stops w h n p (log.met e next) s m is = absurd (let z : _≡_ {A = ℕ} 0 1 = cc in omega arith)
-  stops w h n p (log.refused k q) s m is = let same : q ≡ p = cc in omega (arith, refused-inside bytes (w .place) k q s h .1, same)
+  stops w h n p (log.refused k q) s m is = let same : q ≡ p = cc in omega (arith, refused-inside bytes (w .place) k q s .inside, same)
   stops w h n p log.end s m is = absurd (let z : _≡_ {A = ℕ} 0 1 = cc in omega arith)
 
   first : (most : ℕ) (w : Walk) → w .place ≤ length bytes → ((v : Walk) → v .place ≤ length bytes → Within (length bytes) (pageOf most bytes v))
