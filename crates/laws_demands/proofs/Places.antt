@@ -2,6 +2,7 @@
 use Prim.Native.Nat.{ℕ}
 use mathlib.Core.Path.{_≡_, refl, sym, _∙_}
 use mathlib.Core.List.{List}
+use mathlib.Core.Logic.{inl}
 use mathlib.Core.Option.{none, some}
 use native.Mathlib.Omega.{arith}
 use lib.ListN.{length}
@@ -18,6 +19,7 @@ use Rattle.log_record.specs.Records as log
 use Rattle.c_calls.specs.Landing.{readyOf}
 use Rattle.c_calls.specs.Playing.{playReady, playOf}
 use Rattle.laws_format.proofs.Keeping.{our-reads}
+use Rattle.laws_format.proofs.KindsListed.{kinds-listed}
 use Rattle.laws_format.proofs.RecordsRefused.{no-row}
 use Rattle.laws_format.proofs.RecordsDecided.{record-among}
 use Rattle.laws_heads.proofs.Third.{not-ready}
@@ -26,7 +28,7 @@ use Rattle.laws_demands.specs.Second.{PlayedAt}
 -- no kind has the number that stands for none
 some-kind : (k : Kind) → kindByte k ≡ 0 → ⊥
 some-kind k e =
-    let z : some (kindRow k) ≡ none = sym (row-of-its-own k) ∙ no-row (kindByte k) (λ a. omega (arith, a .0, e)) in
+    let z : some (kindRow k) ≡ none = sym (row-of-its-own k) ∙ no-row (kindByte k) (kinds-listed (kindByte k) .1 (inl e)) in
     let y : _≡_ {A = ℕ} 0 1 = cc in
     omega arith
 

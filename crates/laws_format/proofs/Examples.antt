@@ -1,6 +1,7 @@
 -- The paper's own bytes, by the format.
 use mathlib.Core.Path.{refl}
 use mathlib.Core.List.{[], _∷_}
+use mathlib.Core.Logic.{inl, inr}
 use native.Mathlib.Omega.{arith}
 use borrow.Author.Needs.{needs}
 use Rattle.log_number.specs.Number.{spell, groups}
@@ -12,6 +13,7 @@ use Rattle.laws_format.specs.Format as format
 use Rattle.laws_format.specs.Unreadable.{cut-off, five-high, too-large, zero-last, no-kind, stopped}
 use Rattle.laws_format.specs.Rows.{PaperBytes}
 use Rattle.laws_format.proofs.Formats.{grouped, spelled}
+use Rattle.laws_format.proofs.KindsListed.{kinds-listed}
 
 pub paper-bytes : PaperBytes
 unfolding spellEvent spellItems spell groups
@@ -26,8 +28,9 @@ paper-bytes = record {
   fiveHigh = five-high (0x80 ∷ 0x80 ∷ 0x80 ∷ 0x80 ∷ 0x80 ∷ []) [] (search needs) refl;
   fourHigh = cut-off (0xFF ∷ 0xFF ∷ 0xFF ∷ 0xFF ∷ []) (search needs) (omega arith);
   fourAndZero = zero-last (0x80 ∷ 0x80 ∷ 0x80 ∷ 0x80 ∷ []) [] (search needs) (omega arith) (omega arith);
-  kindZero = no-kind 0 [] (λ a. omega (arith, a .0));
-  kindEight = no-kind 8 [] (λ a. omega (arith, a .1));
+  kindsListed = kinds-listed;
+  kindZero = no-kind 0 [] (kinds-listed 0 .1 (inl refl));
+  kindEight = no-kind 8 [] (kinds-listed 8 .1 (inr (omega arith)));
   set = spelled (Set 1 8400) (search needs);
   write = spelled (Write 0x1B 0x42) (search needs);
   takeFlags = spelled TakeFlags tt;

@@ -2,6 +2,7 @@
 pub mod Formats
 pub mod NumbersRefused
 pub mod RecordsRefused
+pub mod KindsListed
 pub mod Keeping
 pub mod Only
 mod NumbersDecided

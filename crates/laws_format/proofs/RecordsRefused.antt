@@ -1,18 +1,12 @@
 -- This product gives 1 to 4 for what stands at a place, and tells where, exactly when the paper's rows say so.
 use Prim.Native.Nat.{ℕ, suc, _+_, _≤_, _<_}
 use mathlib.Core.Path.{_≡_, refl, sym, ap, _∙_, subst}
-use mathlib.Core.Bool.{Bool, true, false}
 use mathlib.Core.List.{List, [], _∷_, _++_, append-assoc}
-use mathlib.Core.Logic.{_≢_}
 use mathlib.Core.Option.{Option, some}
 use mathlib.Core.Option as option
 use native.Mathlib.Omega.{arith}
 use lib.ListN.{length, drop, length-append}
 use lib.Seq.{drop-append-seam}
-use lib.Dec.{eqb}
-use borrow.Author.Needs.{needs}
-use borrow.Author.Tests.{eqb-false}
-use Rattle.base.specs.Pick.{pick}
 use Rattle.base.specs.Found.{Found, found, refused, moved}
 use Rattle.log_number.specs.Promises.{Bytes}
 use Rattle.log_event.specs.Items.{Shape, number, Item, num, shapes, values}
@@ -20,13 +14,13 @@ use Rattle.log_event.specs.Kinds.{kindByte, shapesOf, KindRow, kindRow, kinds, 
 use Rattle.log_event.specs.Events.{kindOf, itemsOf, eventOf}
 use Rattle.log_event.specs.declared.Event.{Event}
 use Rattle.log_event.specs.declared.kinds.Kind.{Kind}
-use Rattle.log_event.proofs.Table.{EachRow, row-has, own-row}
+use Rattle.log_event.proofs.Table.{own-row}
 use Rattle.log_event.proofs.Remaking.{values-nums, shapes-long, row-of-its-own, every-event, every-kind}
 use Rattle.log_record.specs.Items.{asNum, behind, andThen, readItems}
 use Rattle.log_record.specs.Records.{Met, ofKind, ofRow, readRecord}
 use Rattle.log_record.specs.Records as log
 use Rattle.log_record.proofs.ItemLaws.{bytes-drop}
-use Rattle.laws_format.specs.Format.{Groups, largest, Numbers, none, one}
+use Rattle.laws_format.specs.Format.{Groups, largest, Numbers, none, one, Listed, NoKind}
 use Rattle.laws_format.specs.Unreadable.{NoNumber, NoRecord, no-kind, stopped}
 use Rattle.laws_format.proofs.Formats.{number-read, listed-is, listed}
 use Rattle.laws_format.proofs.NumbersRefused.{Numbered, value, no-number, numbered, refused-number}
@@ -65,34 +59,7 @@ stopped-at (number ∷ hs) {p = p} left (one m ns groups rest h g so) l bad q e 
     let same : length groups + (length rest + p) ≡ q = omega (arith, length-append groups rest) in
     simp (append-assoc, number-read m groups (rest ++ left) h g, drop-append-seam, k, same)
 
--- ---- the table: its bytes are 1 to 7, each kind has an event, and an event has its kind's count of numbers
-abbrev Known : KindRow → Type 0
-Known r = (1 ≤ r .byte) × (r .byte ≤ 7)
-
-each-known : EachRow Known kinds
-each-known = search needs
-
-pub missed : (t : List KindRow) (b : ℕ) → rowFor t b ≡ option.none → EachRow (λ r. b ≢ r .byte) t
-missed [] b e = tt
-missed (r ∷ t) b e = go (eqb b (r .byte)) refl (missed t b) e
-  where
-    go : (u : Bool) → eqb b (r .byte) ≡ u → (rowFor t b ≡ option.none → EachRow (λ q. b ≢ q .byte) t) → pick u (some r) (rowFor t b) ≡ option.none
-        → EachRow (λ q. b ≢ q .byte) (r ∷ t)
-    go true eu ih e = absurd (let z : _≡_ {A = ℕ} 0 1 = cc in omega arith)
-    go false eu ih e = (eqb-false b (r .byte) eu, ih e)
-
-pub none-between : (b : ℕ) → EachRow (λ r. b ≢ r .byte) kinds → ¬ ((1 ≤ b) × (b ≤ 7))
-none-between b d a =
-    let above : 5 ≤ b = omega (arith, a .0, d .0, d .1 .0, d .1 .1 .0, d .1 .1 .1 .0) in
-    omega (arith, a .1, d .1 .1 .1 .1 .0, d .1 .1 .1 .1 .1 .0, d .1 .1 .1 .1 .1 .1 .0)
-
-pub no-row : (b : ℕ) → ¬ ((1 ≤ b) × (b ≤ 7)) → rowFor kinds b ≡ option.none
-no-row b out = go (rowFor kinds b) refl
-  where
-    go : (x : Option KindRow) → rowFor kinds b ≡ x → x ≡ option.none
-    go option.none e = refl
-    go (some r) e = let k = row-has Known kinds each-known b r e in absurd (out (subst (λ (c : ℕ). (1 ≤ c) × (c ≤ 7)) (k .1) (k .0)))
-
+-- ---- the table: each kind has an event, and an event has its kind's count of numbers
 pub count-of : (e : Event) → length (shapesOf (kindOf e)) ≡ length (values (itemsOf e))
 count-of e = ap length (sym (every-event e .shaped)) ∙ shapes-long (itemsOf e)
 
@@ -104,8 +71,25 @@ nothings-shaped : (hs : List Shape) → shapes (nothings hs) ≡ hs
 nothings-shaped [] = refl
 nothings-shaped (number ∷ hs) = ap (λ l. number ∷ l) (nothings-shaped hs)
 
-an-event : (k : Kind) → (e : Event) × (kindOf e ≡ k)
+pub an-event : (k : Kind) → (e : Event) × (kindOf e ≡ k)
 an-event k = let is = nothings (shapesOf k) in (eventOf k (values is), every-kind k is (nothings-shaped (shapesOf k)) .kind)
+
+-- a byte has no row exactly if the paper lists no event under it
+pub none-listed : (b : ℕ) → rowFor kinds b ≡ option.none → NoKind b
+none-listed b n e ns l =
+    let z : some (kindRow (kindOf e)) ≡ option.none = sym (row-of-its-own (kindOf e)) ∙ ap (rowFor kinds) (sym (listed-is l .0)) ∙ n in
+    absurd (let z : _≡_ {A = ℕ} 0 1 = cc in omega arith)
+
+pub no-row : (b : ℕ) → NoKind b → rowFor kinds b ≡ option.none
+no-row b out = go (rowFor kinds b) refl
+  where
+    go : (x : Option KindRow) → rowFor kinds b ≡ x → x ≡ option.none
+    go option.none e = refl
+    go (some r) e =
+        let own = own-row b r e in
+        let a = an-event (r .kind) in
+        let byte : kindByte (kindOf (a .0)) ≡ b = ap kindByte (a .1) ∙ ap (λ (q : KindRow). q .byte) (sym (own .0)) ∙ own .1 in
+        absurd (out (a .0) _ (subst (λ (c : ℕ). Listed (a .0) c (values (itemsOf (a .0)))) byte (listed (a .0))))
 
 -- ---- a record
 pub data Recorded : List ℕ → Met → Type 0 where
@@ -124,7 +108,7 @@ of-kind k s bs =
     subst (λ (j : Kind). Recorded (kindByte j ∷ s) (ofKind j (readItems (shapesOf j) s))) (a .1) (of-event (a .0) (itemed (shapesOf (kindOf (a .0))) s bs))
 
 of-row : (b : ℕ) (s : List ℕ) → Bytes s → (x : Option KindRow) → rowFor kinds b ≡ x → Recorded (b ∷ s) (ofRow x s)
-of-row b s bs option.none e = no-record 4 0 _ (no-kind b s (none-between b (missed kinds b e)))
+of-row b s bs option.none e = no-record 4 0 _ (no-kind b s (none-listed b e))
 of-row b s bs (some r) e =
     let own = own-row b r e in
     let is : kindRow (r .kind) ≡ r = sym (own .0) in

@@ -1,8 +1,11 @@
 -- The paper's own bytes: what its examples spell, and what can't be read.
+use Prim.Native.Nat.{ℕ, _<_}
+use mathlib.Core.Path.{_≡_}
 use mathlib.Core.List.{[], _∷_}
+use mathlib.Core.Logic.{_↔_, _⊎_}
 use lib.IntN.{pos, negsuc}
 use Rattle.log_event.specs.declared.Event.the-variants.{PowerOn, Set, Write, TakeFlags, Observe, Service, Reset}
-use Rattle.laws_format.specs.Format.{Groups, Ibat, Spells}
+use Rattle.laws_format.specs.Format.{Groups, Ibat, NoKind, Spells}
 use Rattle.laws_format.specs.Unreadable.{NoNumber, NoRecord}
 
 pub record PaperBytes : Type 0 where
@@ -27,6 +30,7 @@ pub record PaperBytes : Type 0 where
   pub fourHigh : NoNumber 1 (0xFF ∷ 0xFF ∷ 0xFF ∷ 0xFF ∷ []) 4
   pub fourAndZero : NoNumber 2 (0x80 ∷ 0x80 ∷ 0x80 ∷ 0x80 ∷ 0x00 ∷ []) 4
   -- "kind not 1-7"
+  pub kindsListed : (b : ℕ) → NoKind b ↔ ((b ≡ 0) ⊎ (7 < b))
   pub kindZero : NoRecord 4 (0x00 ∷ []) 0
   pub kindEight : NoRecord 4 (0x08 ∷ []) 0
   -- a record of each other kind: setting 1 to 8,400, byte 0x42 to address 0x1B, and those with no numbers

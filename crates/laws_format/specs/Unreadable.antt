@@ -5,7 +5,7 @@ use mathlib.Core.Path.{_≡_}
 use mathlib.Core.List.{List, [], _∷_, _++_}
 use lib.ListN.{length, drop}
 use Rattle.log_event.specs.declared.Event.{Event}
-use Rattle.laws_format.specs.Format.{Groups, largest, Numbers, Listed}
+use Rattle.laws_format.specs.Format.{Groups, largest, Numbers, Listed, NoKind}
 
 -- groups that all have the high bit
 abbrev pub High : List ℕ → Type 0
@@ -26,7 +26,7 @@ pub data NoNumber : ℕ → List ℕ → ℕ → Type 0 where
 -- the same of a record
 pub data NoRecord : ℕ → List ℕ → ℕ → Type 0 where
   -- 4: "kind not 1-7"; "the record's start"
-  no-kind : (b : ℕ) (rest : List ℕ) → ¬ ((1 ≤ b) × (b ≤ 7)) → NoRecord 4 (b ∷ rest) 0
+  no-kind : (b : ℕ) (rest : List ℕ) → NoKind b → NoRecord 4 (b ∷ rest) 0
   -- "then number by number": some are there, the kind has more, and what follows is none
   stopped : (n kind place : ℕ) (e : Event) (all ns before left : List ℕ) → Listed e kind all → Numbers ns before → length ns < length all → NoNumber n left place
       → NoRecord n (kind ∷ (before ++ left)) (suc (length before + place))

@@ -22,7 +22,7 @@ use Rattle.c_words.proofs.WordLaws.{length-words}
 use Rattle.laws_images.proofs.Loading.{all-words}
 use Rattle.laws_format.specs.Format.{Listed, AllSmall}
 use Rattle.laws_format.specs.Ours.{AnswerAt, event, unreadable, over}
-use Rattle.laws_format.proofs.RecordsRefused.{missed, none-between}
+use Rattle.laws_format.proofs.RecordsRefused.{none-listed}
 use Rattle.laws_format.proofs.RecordsBegun.{event-with}
 use Rattle.laws_format.proofs.Only.{ahead, one-answer}
 use Rattle.laws_heads.specs.Given.{shownBytes, EventGives, given, no-room, no-kind, not-as-many, at-end, PlayGives, played, no-room-shown, no-record, Ending, ReplayGives, stops, goes-on, OneList, EveryInputGives}
@@ -65,7 +65,7 @@ module _ (kind : ℕ) (words : List ℕ) (bs : Bytes words) (room : ℕ) (fits :
   as-many e ns l h same false t = ([], not-as-many e ns l (eqb-false (length words) (length ns * 4) t))
 
   by-row : (x : Option KindRow) → rowFor kinds kind ≡ x → (new : List Event) × EventGives kind words room new
-  by-row none o = ([], no-kind (none-between kind (missed kinds kind o)))
+  by-row none o = ([], no-kind (none-listed kind o))
   by-row (some r) o =
       let own = own-row kind r o in
       let count = length (shapesOf (r .kind)) in

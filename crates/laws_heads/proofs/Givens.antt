@@ -22,7 +22,7 @@ use Rattle.step_event.specs.Wholes.{eventBy, eventsOf}
 use Rattle.c_words.specs.Words.{bytesOf}
 use Rattle.c_event.specs.Given.{givenOf}
 use Rattle.c_event.proofs.Answers.{every-given}
-use Rattle.laws_format.specs.Format.{Listed, AllSmall}
+use Rattle.laws_format.specs.Format.{Listed, NoKind, AllSmall}
 use Rattle.laws_format.specs.Readers.{SpelledAt}
 use Rattle.laws_format.specs.Ours.{ourRead}
 use Rattle.laws_format.proofs.Formats.{listed-is}
@@ -49,7 +49,7 @@ module _ {e : Event} {kind : ℕ} {ns : List ℕ} (l : Listed e kind ns) where
       let long : length (shapesOf (kindOf e)) ≡ length ns = count-of e ∙ ap length (sym are-values) in
       rw (listed-is l .0, row-of-its-own (kindOf e), long, ne-eqb (length words) (length ns * 4) h)
 
-pub unknown : (kind : ℕ) (words : List ℕ) → ¬ ((1 ≤ kind) × (kind ≤ 7)) → givenOf kind words ≡ refused 4
+pub unknown : (kind : ℕ) (words : List ℕ) → NoKind kind → givenOf kind words ≡ refused 4
 unfolding givenOf
 unknown kind words h = rw (no-row kind h)
 

@@ -7,7 +7,7 @@ use lib.ListN.{length}
 use Rattle.log_number.specs.Promises.{Bytes}
 use Rattle.log_event.specs.declared.Event.{Event}
 use Rattle.c_words.specs.Words.{bytesOf}
-use Rattle.laws_format.specs.Format.{Listed, AllSmall}
+use Rattle.laws_format.specs.Format.{Listed, NoKind, AllSmall}
 use Rattle.laws_format.specs.Unreadable.{LogRow}
 use Rattle.laws_format.specs.Readers.{SpelledAt}
 
@@ -21,7 +21,7 @@ pub data EventGives (kind : ℕ) (words : List ℕ) (room : ℕ) : List Event �
   -- "an answer buffer that is too short is 12"
   no-room : room < shownBytes → EventGives kind words room []
   -- "An unknown kind is 4;"
-  no-kind : ¬ ((1 ≤ kind) × (kind ≤ 7)) → EventGives kind words room []
+  no-kind : NoKind kind → EventGives kind words room []
   -- "words that aren't as many are 5."
   not-as-many : (e : Event) (ns : List ℕ) → Listed e kind ns → length words ≢ length ns * 4 → EventGives kind words room []
 

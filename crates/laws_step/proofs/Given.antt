@@ -30,7 +30,7 @@ use Rattle.step_kinds.specs.Changes.{Changed}
 use Rattle.step_kinds.specs.Finish.{finishOf}
 use Rattle.step_kinds.specs.Plain.{afterWrite, setOf, writtenOf}
 use Rattle.step_event.specs.Steps.{observeOf, followedOf, movedOf, firstOf, changeOf, closedBy, turnedBy, stepOf}
-use Rattle.laws_step.specs.Rows.{Among, Row, bad-field, bad-profile, bad-byte, bad-sample, not-powered, too-far, no-setting, bad-value, no-address, bad-frequency}
+use Rattle.laws_step.specs.Rows.{Among, PowersOn, by-codes, Row, bad-field, bad-profile, bad-byte, bad-sample, not-powered, too-far, no-setting, bad-value, no-address, bad-frequency}
 use Rattle.laws_step.specs.Theorems.{EachGiven, NumberKnown}
 use Rattle.laws_step.proofs.InRanges.{outside, refuted, failed, among, profile-in, sample-in, value-in, bad-frequency-is}
 
@@ -97,18 +97,18 @@ powers-first p false h = inr (bad-profile Off p (outside (profileInRange p) (pro
 -- 6 comes before an observation's 5
 not-yet : (x : SpelledSample) (t : Bool) → Says Off (Observe x) (firstOf (pick t (Follows (later.Observe (heldSample x))) FollowsOutside))
 unfolding firstOf
-not-yet x true = inr (not-powered (Observe x) (λ z. omega arith))
-not-yet x false = inr (not-powered (Observe x) (λ z. omega arith))
+not-yet x true = inr (not-powered (Observe x) (elim [ ]))
+not-yet x false = inr (not-powered (Observe x) (elim [ ]))
 
 first : (e : Event) → Says Off e (firstOf (turnOf e))
 unfolding firstOf turnOf
 first (PowerOn p) = powers-first p (profileInRange p) refl
-first (Set number value) = inr (not-powered (Set number value) (λ z. omega arith))
-first (Write address byte) = inr (not-powered (Write address byte) (λ z. omega arith))
-first TakeFlags = inr (not-powered TakeFlags (λ z. omega arith))
+first (Set number value) = inr (not-powered (Set number value) (elim [ ]))
+first (Write address byte) = inr (not-powered (Write address byte) (elim [ ]))
+first TakeFlags = inr (not-powered TakeFlags (elim [ ]))
 first (Observe x) = not-yet x (sampleInRange x)
-first Service = inr (not-powered Service (λ z. omega arith))
-first Reset = inr (not-powered Reset (λ z. omega arith))
+first Service = inr (not-powered Service (elim [ ]))
+first Reset = inr (not-powered Reset (elim [ ]))
 
 tells : (m : Model) (e : Event) → Says m e (changeOf m (turnOf e))
 unfolding changeOf
@@ -142,7 +142,7 @@ rows-give (bad-profile (On s) p out) = by-test (stateOk s) 5 (movedOf s (turnOf 
 rows-give (bad-byte s address byte known large) =
     by-test (stateOk s) 5 (writtenOf s address byte) (simp (then-byte s address byte (among address 0x15 0x1C .1 known) (lt-leb byte 255 large)))
 rows-give (bad-sample s x out) = by-test (stateOk s) 5 (movedOf s (turnOf (Observe x))) (simp (failed (sampleInRange x) (sample-in x) out))
-rows-give (not-powered (PowerOn p) other) = absurd (other refl)
+rows-give (not-powered (PowerOn p) other) = absurd (other (by-codes p))
 rows-give (not-powered (Set number value) other) = refl
 rows-give (not-powered (Write address byte) other) = refl
 rows-give (not-powered TakeFlags other) = refl

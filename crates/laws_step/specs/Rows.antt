@@ -11,8 +11,6 @@ use Rattle.state_parts.specs.declared.profile.Profile.{Profile}
 use Rattle.state_parts.specs.declared.state.State.{State}
 use Rattle.state_parts.specs.declared.state.Model.{Model}
 use Rattle.state_parts.specs.declared.state.Model.the-variants.{Off, On}
-use Rattle.log_event.specs.Events.{kindOf}
-use Rattle.log_event.specs.Kinds.{kindByte}
 use Rattle.log_event.specs.declared.Event.{Event}
 use Rattle.log_event.specs.declared.Event.the-variants.{PowerOn, Set, Write, Observe}
 use Rattle.log_event.specs.declared.spelled.SpelledProfile.{SpelledProfile}
@@ -49,6 +47,10 @@ pub record ValueIn (p : Profile) (number value : ℕ) : Type 0 where
   pub range : Among value (rangeOf p number .low) (rangeOf p number .high)
   pub step : value % rangeOf p number .step ≡ 0
 
+-- "a power-on's" kinds
+pub data PowersOn : Event → Type 0 where
+  by-codes : (p : SpelledProfile) → PowersOn (PowerOn p)
+
 pub data Row : ℕ → Model → Event → Type 0 where
   -- 5: "a number outside kind 1, 3 or 5's ranges above, or a handed-in model's field outside what it may hold"
   bad-field : (s : State) (e : Event) → stateOk s ≢ true → Row 5 (On s) e
@@ -56,7 +58,7 @@ pub data Row : ℕ → Model → Event → Type 0 where
   bad-byte : (s : State) (address byte : ℕ) → Among address 0x15 0x1C → 255 < byte → Row 5 (On s) (Write address byte)
   bad-sample : (s : State) (x : SpelledSample) → ¬ SampleIn x → Row 5 (On s) (Observe x)
   -- 6: "any kind but a power-on's, before a power-on"
-  not-powered : (e : Event) → kindByte (kindOf e) ≢ 1 → Row 6 Off e
+  not-powered : (e : Event) → ¬ PowersOn e → Row 6 Off e
   -- 7: "stamp more than 3,600,000 ms ahead"
   too-far : (s : State) (x : SpelledSample) → stateOk s ≡ true → SampleIn x → 3600000 < elapsedOf (s .sample .stamp) (x .stamp) → Row 7 (On s) (Observe x)
   -- 8: "setting number not 1-14"
