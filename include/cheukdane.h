@@ -51,13 +51,14 @@ typedef char cheukdane_size_t_has_64_bits[sizeof(size_t) == 8 ? 1 : -1];
  * replayed. This is the number at the time of compiling; cheukdane_rules() is that of the archive linked.
  *   1  the base
  *   2  the recharge point is a share of the charge voltage, after the warm cut, and not of the voltage before it
- *   3  the place of 1, 2 and 3 is that of the byte that decided it, and not the record's start; replay tells `next` */
-#define CHEUKDANE_RULES 3
+ *   3  the place of 1, 2 and 3 is that of the byte that decided it, and not the record's start; replay tells `next`
+ *   4  kind 9 is a power-on by its resistors, and not 4 */
+#define CHEUKDANE_RULES 4
 
 /* ---- Images ---- */
 
 /* The format of an image: it moves with the rules, so that no model is carried over from other rules. It is never 0. */
-#define CHEUKDANE_FORMAT 3
+#define CHEUKDANE_FORMAT 4
 
 /* Bytes of an image: 54 words. Word 0 is 0 before a power-on, and then all other words are 0 too; after it, it is the
  * format's number, CHEUKDANE_FORMAT, and the state's numbers follow, from these words on; a yes or no is 1 or 0. So
@@ -71,7 +72,7 @@ typedef char cheukdane_size_t_has_64_bits[sizeof(size_t) == 8 ? 1 : -1];
  * a checksum beside it. An image of another format, an older one too, is 5: such a head starts from zeroed bytes and
  * replays the log. */
 #define CHEUKDANE_IMAGE 216
-#define CHEUKDANE_PROFILE 1    /* a power-on's ten numbers, in the log's order */
+#define CHEUKDANE_PROFILE 1    /* a power-on's ten numbers, in kind 1's order; of kind 9 the codes, not the ohms */
 #define CHEUKDANE_SETTINGS 11  /* settings 1 to 14 */
 #define CHEUKDANE_REGISTERS 25 /* the bytes 0x15 to 0x1A; CELL_PIN; the VCHG, CELL and ICHG overrides */
 #define CHEUKDANE_LATCHES 35   /* VIN ok, VIN over, short, low, battery over */
@@ -84,7 +85,10 @@ typedef char cheukdane_size_t_has_64_bits[sizeof(size_t) == 8 ? 1 : -1];
 
 /* ---- Names for the paper's numbers ---- */
 
-/* Kinds of events. */
+/* Kinds of events. Of kind 9 each of the three resistors, 0 to 100,000 ohms, stands for the code in whose span it lies,
+ * both ends included, and for code 0, a pin fault, outside all of them. From there on it is kind 1 with those codes.
+ *     1   4,548- 4,732    2   5,920- 6,160    3   8,085- 8,415    4  10,290-10,710
+ *     5  13,426-13,974    6  16,562-17,238    7  26,852-27,948 */
 enum {
     CHEUKDANE_KIND_POWER_ON = 1,   /* cell, vchg, ichg codes; ILIM ohms; stamp; cell ceiling; trickle, precharge and
                                       fast limits and watchdog period in seconds */
@@ -93,7 +97,8 @@ enum {
     CHEUKDANE_KIND_TAKE_FLAGS = 4, /* no numbers; hands back the held flags and clears them */
     CHEUKDANE_KIND_OBSERVE = 5,    /* stamp; VIN, VBAT in mV; IBAT as CHEUKDANE_IBAT gives it; TS; sample bits */
     CHEUKDANE_KIND_SERVICE = 6,    /* no numbers; services the watchdog */
-    CHEUKDANE_KIND_RESET = 7       /* no numbers; resets the registers */
+    CHEUKDANE_KIND_RESET = 7,      /* no numbers; resets the registers */
+    CHEUKDANE_KIND_POWER_ON_RESISTORS = 9 /* as 1, with the CELL, VCHG and ICHG resistors in ohms for the codes */
 };
 
 /* Answers: a call's `number`, and `code` of a replay. */
@@ -168,7 +173,7 @@ enum {
     CHEUKDANE_SETTING_IINDPM = 5,    /* mA */
     CHEUKDANE_SETTING_VSYSMIN = 6,   /* mV */
     CHEUKDANE_SETTING_VBAT_LOWV = 7, /* 0-3: 30, 55, 66.7, 71.4% of the base voltage */
-    CHEUKDANE_SETTING_VRECHG = 8,    /* 0-3: 92.7, 94.1, 95.5, 97% of the base voltage */
+    CHEUKDANE_SETTING_VRECHG = 8,    /* 0-3: 92.7, 94.1, 95.5, 97% of the charge voltage */
     CHEUKDANE_SETTING_EN_CHG = 9,
     CHEUKDANE_SETTING_EN_TERM = 10,
     CHEUKDANE_SETTING_EN_HIZ = 11,

@@ -16,5 +16,6 @@ pub mod Powering
 mod Stepping
 pub mod Agreeing
 pub mod Logging
+pub mod Beginning
 pub mod Looking
 pub mod Reports

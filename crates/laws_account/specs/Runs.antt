@@ -3,11 +3,14 @@ use Prim.Native.Nat.{ℕ, suc}
 use mathlib.Core.Path.{_≡_}
 use mathlib.Core.Bool.{Bool, not, _&&_}
 use mathlib.Core.List.{List}
+use mathlib.Core.Logic.{_≢_, _⊎_}
 use lib.ListN.{length}
 use Rattle.state_parts.specs.declared.phase.Phase.{Phase}
+use Rattle.state_parts.specs.declared.profile.Profile.{Profile}
 use Rattle.state_parts.specs.declared.state.Model.{Model}
 use Rattle.state_parts.specs.declared.state.Model.the-variants.{Off, On}
 use Rattle.log_event.specs.declared.Event.{Event}
+use Rattle.step_turns.specs.Begins.{Begins}
 use Rattle.step_turns.specs.declared.turn.Turn.the-variants.{Opens, Follows}
 use Rattle.step_event.specs.Steps.{turnedBy, stepOf}
 use Rattle.step_event.specs.Pages.{wholeOf}
@@ -15,7 +18,7 @@ use Rattle.step_event.specs.Wholes.{eventsOf}
 use Rattle.laws_account.specs.History.{Run, powered, _▸_}
 use Rattle.laws_account.specs.Judged.{permitted, suspended, rechargeDue}
 use Rattle.laws_account.specs.Cycles.{fault, wasDone, restarts, Keeps, phaseAt}
-use Rattle.laws_account.specs.Refused.{Accepted, Past, none, some, refusalOf, pastOf}
+use Rattle.laws_account.specs.Refused.{Accepted, Past, none, some, refusalOf, nextOf, pastOf}
 use Rattle.laws_account.specs.States.{stateOf, modelOf, outcomeOf}
 
 -- the model after a run
@@ -53,6 +56,18 @@ fiveHolds r = permitted r && not (fault phaseAt r) && not (suspended r) && wasDo
 -- "When phase 5 would hold and VBAT is below [the recharge point], done and times clear and the later phases are judged."
 abbrev pub RestartsExactly : Type 0
 RestartsExactly = (r : Run) → (permitted r && restarts phaseAt r) ≡ (fiveHolds r && rechargeDue r)
+
+-- a run begins with what its power-on's own numbers say, whichever kind brought them: "before a power-on" and "since the latest power-on" count each of these kinds
+pub record RunBegins (h : Past) (e : Event) (p : Profile) : Type 0 where
+  pub with : refusalOf h e ≡ 0 → nextOf h e ≡ some (powered p)
+  pub else : refusalOf h e ≢ 0 → (refusalOf h e ≡ 5) × (nextOf h e ≡ h)
+
+abbrev pub EveryRunBegins : Type 0
+EveryRunBegins = (h : Past) (e : Event) (p : Profile) → Begins e p → RunBegins h e p
+
+-- and no other event begins one
+abbrev pub NoOtherBegins : Type 0
+NoOtherBegins = (h : Past) (e : Event) (p : Profile) → nextOf h e ≡ some (powered p) → (Begins e p) ⊎ (h ≡ some (powered p))
 
 -- of a log: the accepted events since its latest accepted power-on
 abbrev pub logged : List ℕ → Past

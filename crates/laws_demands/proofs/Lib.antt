@@ -15,6 +15,8 @@ pub mod Parts
 pub mod Operators
 pub mod EndTest
 pub mod BasePoint
+pub mod Older
+pub mod Soldered
 mod Invented
 pub mod RefutesFirst
 pub mod RefutesSecond

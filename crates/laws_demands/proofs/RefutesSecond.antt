@@ -74,6 +74,7 @@ use Rattle.laws_demands.proofs.Days.{paper, sample, seen, sampled, powe
 use Rattle.laws_demands.proofs.Against.{as-ours, shown-as-ours}
 use Rattle.laws_demands.proofs.Only.{same-log}
 use Rattle.laws_demands.proofs.Parts.{parts-break}
+use Rattle.laws_demands.proofs.Soldered.{broken}
 
 -- what breaks the part of demand 2 that a call is held to breaks it for every product with that call
 step-breaks : (step : Step) → ¬ Moves step → StepBreaks step
@@ -146,6 +147,12 @@ second-refuted = record {
   cooled = step-breaks _ (λ d. differ 3 1 refl (ap (of (λ s. bandNumber (s .band))) (as-ours _ d powered (Observe (sample 1000 7600 0 80000 0)))));
   point = step-breaks _ (λ d. differ 4 5 refl (ap (of (λ s. phaseNumber (s .phase))) (as-ours _ d (untilTaper 7890) (seenAt 2000 7890 50 40000))));
   restart = step-breaks _ (λ d. differ 5 3 refl (ap (of (λ s. phaseNumber (s .phase))) (as-ours _ d (untilEnd 7890) (seenAt 3000 7890 500 55000))));
+  measured = step-breaks _ (broken .measured);
+  ends = step-breaks _ (broken .ends);
+  higher = step-breaks _ (broken .higher);
+  lower = step-breaks _ (broken .lower);
+  ilim = step-breaks _ (broken .ilim);
+  matchless = step-breaks _ (broken .matchless);
   stray = step-breaks _ (λ d. differ 80000 55000 refl (ap (of (λ s. s .sample .ts)) (d .passes (On stray) refl (PowerOn paper))));
   otherCode = parts-break .read readsSwapped (format-refuted .otherCode);
   otherCodeWritten = parts-break .write writesSwapped (format-refuted .otherCodeWritten);

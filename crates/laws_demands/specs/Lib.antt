@@ -12,4 +12,6 @@ pub mod Slips
 pub mod Operators
 pub mod EndTest
 pub mod BasePoint
+pub mod Soldered
+pub mod Older
 pub mod Refuted

@@ -20,6 +20,7 @@ use Rattle.laws_demands.specs.Wrong.{forgets, stopsAlways, spills, refus
 use Rattle.laws_demands.specs.Operators.{CountedOn}
 use Rattle.laws_demands.specs.EndTest.{neverRestarts}
 use Rattle.laws_demands.specs.BasePoint.{stepByBase}
+use Rattle.laws_demands.specs.Soldered.{byMeasured, withoutEnds, oneHigher, oneLower, widerIlim, faultRefused}
 use Rattle.laws_demands.specs.Slips.{sameWrite, scalesPrecharge, timesAfter, judgesCool, halvesByNew, keepsTimes}
 
 -- demand 1: "a refused event changes neither the model nor a lent buffer", "every byte string gets an answer"
@@ -65,6 +66,13 @@ pub record SecondRefuted : Type 0 where
   pub point : StepBreaks stepByBase
   -- 02, R-2 taken too far: a restart that has no test
   pub restart : StepBreaks neverRestarts
+  -- 02, R-5: 2% of what was measured; the spans' ends left out; a code one higher, or one lower; the ILIM ohms to 100,000; what matches none refused
+  pub measured : StepBreaks byMeasured
+  pub ends : StepBreaks withoutEnds
+  pub higher : StepBreaks oneHigher
+  pub lower : StepBreaks oneLower
+  pub ilim : StepBreaks widerIlim
+  pub matchless : StepBreaks faultRefused
   -- right after every run, and wrong on a model that passes but that no run leaves
   pub stray : StepBreaks dropsStray
   -- another byte code; a record read at place 0 alone; one number for whatever can't be read, and two that are swapped

@@ -21,6 +21,7 @@ use Rattle.report_state.specs.Report.{reportOf}
 use Rattle.report_state.specs.Stats.{statOf}
 use Rattle.step_event.specs.Steps.{modelOk, stepOf}
 use Rattle.laws_step.specs.Rows.{Row}
+use Rattle.laws_step.specs.Powered.{HoldsWhatIsSaid}
 use Rattle.laws_account.specs.History.{Run}
 use Rattle.laws_account.specs.Refused.{Accepted, Past}
 use Rattle.laws_account.specs.States.{stateOf, modelOf, outcomeOf}
@@ -43,6 +44,8 @@ pub record Moves (step : Step) : Type 0 where
   pub moves : (h : Past) → Lawful h → (e : Event) → step (modelOf h) e ≡ outcomeOf h e
   -- and what 01's definitions say of every model that holds what it may, also one that no history leaves
   pub passes : (m : Model) → modelOk m ≡ true → (e : Event) → step m e ≡ stepOf m e
+  -- what is held of a power-on is what its own numbers say, whichever kind brought them (02, R-5)
+  pub begins : HoldsWhatIsSaid step
 
 -- the same of what is reported
 pub record Reports (report : Reporter) : Type 0 where

@@ -5,7 +5,7 @@ use mathlib.Core.Logic.{inl, inr}
 use native.Mathlib.Omega.{arith}
 use borrow.Author.Needs.{needs}
 use Rattle.log_number.specs.Number.{spell, groups}
-use Rattle.log_event.specs.declared.Event.the-variants.{PowerOn, Set, Write, TakeFlags, Observe, Service, Reset}
+use Rattle.log_event.specs.declared.Event.the-variants.{PowerOn, Set, Write, TakeFlags, Observe, Service, Reset, PowerOnResistors}
 use Rattle.log_record.specs.Items.{spellItems}
 use Rattle.log_record.specs.Records.{spellEvent}
 use Rattle.laws_format.specs.Format.{none, below-zero}
@@ -30,10 +30,11 @@ paper-bytes = record {
   fourAndZero = zero-last (0x80 ∷ 0x80 ∷ 0x80 ∷ 0x80 ∷ []) [] (search needs) (omega arith) (omega arith);
   kindsListed = kinds-listed;
   kindZero = no-kind 0 [] (kinds-listed 0 .1 (inl refl));
-  kindEight = no-kind 8 [] (kinds-listed 8 .1 (inr (omega arith)));
+  kindEight = no-kind 8 [] (kinds-listed 8 .1 (inr (inl refl)));
   set = spelled (Set 1 8400) (search needs);
   write = spelled (Write 0x1B 0x42) (search needs);
   takeFlags = spelled TakeFlags tt;
   service = spelled Service tt;
   reset = spelled Reset tt;
+  powerOnResistors = spelled (PowerOnResistors _) (search needs);
 }

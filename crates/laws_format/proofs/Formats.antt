@@ -14,12 +14,12 @@ use Rattle.log_event.specs.Items.{Item, num, nums, values, AllFit}
 use Rattle.log_event.specs.Kinds.{kindByte}
 use Rattle.log_event.specs.Events.{kindOf, itemsOf}
 use Rattle.log_event.specs.declared.Event.{Event}
-use Rattle.log_event.specs.declared.Event.the-variants.{PowerOn, Set, Write, TakeFlags, Observe, Service, Reset}
+use Rattle.log_event.specs.declared.Event.the-variants.{PowerOn, Set, Write, TakeFlags, Observe, Service, Reset, PowerOnResistors}
 use Rattle.log_record.specs.Items.{spellItems}
 use Rattle.log_record.specs.Records.{spellEvent}
 use Rattle.log_record.specs.Promises.{Spellable}
 use Rattle.log_record.proofs.RecordLaws.{spellings-differ}
-use Rattle.laws_format.specs.Format.{Groups, last, more, largest, Numbers, none, one, Ibat, from-zero, below-zero, Listed, power-on, set, write, take-flags, observe, service, reset, Spells, kind-then-numbers, AllSmall, InRange, Signed32, SpelledOnce}
+use Rattle.laws_format.specs.Format.{Groups, last, more, largest, Numbers, none, one, Ibat, from-zero, below-zero, Listed, power-on, set, write, take-flags, observe, service, reset, power-on-resistors, Spells, kind-then-numbers, AllSmall, InRange, Signed32, SpelledOnce}
 
 -- ---- groups
 pub groups-are : {n : ℕ} {groups : List ℕ} → Groups n groups → groups ≡ spell n
@@ -85,6 +85,7 @@ listed-is take-flags = (refl, refl)
 listed-is (observe s ibat i) = (refl, rw (ibat-is i))
 listed-is service = (refl, refl)
 listed-is reset = (refl, refl)
+listed-is (power-on-resistors r) = (refl, refl)
 
 pub listed : (e : Event) → Listed e (kindByte (kindOf e)) (values (itemsOf e))
 listed (PowerOn p) = power-on p
@@ -94,6 +95,7 @@ listed TakeFlags = take-flags
 listed (Observe s) = observe s (loggedOf (s .ibat)) (ibat-logged (s .ibat))
 listed Service = service
 listed Reset = reset
+listed (PowerOnResistors r) = power-on-resistors r
 
 -- ---- events
 pub spells-are : {e : Event} {bytes : List ℕ} → Spells e bytes → (bytes ≡ spellEvent e) × Spellable e

@@ -13,4 +13,5 @@ pub mod NumberDeciding
 pub mod Deciding
 pub mod Logs
 pub mod Examples
+pub mod Older
 pub mod Refutes

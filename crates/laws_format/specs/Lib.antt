@@ -6,3 +6,4 @@ pub mod Ours
 pub mod Deciding
 pub mod Wrong
 pub mod Rows
+pub mod Older

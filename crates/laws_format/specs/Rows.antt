@@ -4,7 +4,7 @@ use mathlib.Core.Path.{_≡_}
 use mathlib.Core.List.{[], _∷_}
 use mathlib.Core.Logic.{_↔_, _⊎_}
 use lib.IntN.{pos, negsuc}
-use Rattle.log_event.specs.declared.Event.the-variants.{PowerOn, Set, Write, TakeFlags, Observe, Service, Reset}
+use Rattle.log_event.specs.declared.Event.the-variants.{PowerOn, Set, Write, TakeFlags, Observe, Service, Reset, PowerOnResistors}
 use Rattle.laws_format.specs.Format.{Groups, Ibat, NoKind, Spells}
 use Rattle.laws_format.specs.Unreadable.{NoNumber, NoRecord}
 
@@ -29,8 +29,8 @@ pub record PaperBytes : Type 0 where
   pub fiveHigh : NoNumber 3 (0x80 ∷ 0x80 ∷ 0x80 ∷ 0x80 ∷ 0x80 ∷ []) 4
   pub fourHigh : NoNumber 1 (0xFF ∷ 0xFF ∷ 0xFF ∷ 0xFF ∷ []) 4
   pub fourAndZero : NoNumber 2 (0x80 ∷ 0x80 ∷ 0x80 ∷ 0x80 ∷ 0x00 ∷ []) 4
-  -- "kind not 1-7"
-  pub kindsListed : (b : ℕ) → NoKind b ↔ ((b ≡ 0) ⊎ (7 < b))
+  -- "kind not 1-7", nor 02's 9
+  pub kindsListed : (b : ℕ) → NoKind b ↔ ((b ≡ 0) ⊎ ((b ≡ 8) ⊎ (9 < b)))
   pub kindZero : NoRecord 4 (0x00 ∷ []) 0
   pub kindEight : NoRecord 4 (0x08 ∷ []) 0
   -- a record of each other kind: setting 1 to 8,400, byte 0x42 to address 0x1B, and those with no numbers
@@ -39,3 +39,7 @@ pub record PaperBytes : Type 0 where
   pub takeFlags : Spells TakeFlags (0x04 ∷ [])
   pub service : Spells Service (0x06 ∷ [])
   pub reset : Spells Reset (0x07 ∷ [])
+  -- 02, R-5: the example's power-on by the maker's resistors of its codes, 6,040, 13,700 and 10,500 ohms
+  pub powerOnResistors : Spells
+      (PowerOnResistors (record { cell = 6040; vchg = 13700; ichg = 10500; ohms = 0; stamp = 0; ceiling = 4500; trickle = 3600; precharge = 7200; fast = 36000; watchdog = 0 }))
+      (0x09 ∷ 0x98 ∷ 0x2F ∷ 0x84 ∷ 0x6B ∷ 0x84 ∷ 0x52 ∷ 0x00 ∷ 0x00 ∷ 0x94 ∷ 0x23 ∷ 0x90 ∷ 0x1C ∷ 0xA0 ∷ 0x38 ∷ 0xA0 ∷ 0x99 ∷ 0x02 ∷ 0x00 ∷ [])

@@ -25,7 +25,7 @@ pub data NoNumber : ℕ → List ℕ → ℕ → Type 0 where
 
 -- the same of a record
 pub data NoRecord : ℕ → List ℕ → ℕ → Type 0 where
-  -- 4: "kind not 1-7"; "the record's start"
+  -- 4: "kind not 1-7", nor one that 02 adds; "the record's start"
   no-kind : (b : ℕ) (rest : List ℕ) → NoKind b → NoRecord 4 (b ∷ rest) 0
   -- "then number by number": some are there, the kind has more, and what follows is none
   stopped : (n kind place : ℕ) (e : Event) (all ns before left : List ℕ) → Listed e kind all → Numbers ns before → length ns < length all → NoNumber n left place

@@ -4,7 +4,7 @@ use lib.ListN.{length}
 use lib.Dec.{leb, eqb}
 use Rattle.base.specs.Pick.{pick}
 use Rattle.log_event.specs.declared.Event.{Event}
-use Rattle.log_event.specs.declared.Event.the-variants.{PowerOn, Set, Write, TakeFlags, Observe, Service, Reset}
+use Rattle.log_event.specs.declared.Event.the-variants.{PowerOn, Set, Write, TakeFlags, Observe, Service, Reset, PowerOnResistors}
 use Rattle.log_record.specs.Records.{Met, met, refused, end}
 use Rattle.laws_format.specs.Readers.{Reader, Writer, Reads, Writes}
 use Rattle.laws_format.specs.Ours.{ourRead, ourWrite}
@@ -19,6 +19,7 @@ swapped TakeFlags = TakeFlags
 swapped (Observe s) = Observe s
 swapped Service = Reset
 swapped Reset = Service
+swapped (PowerOnResistors r) = PowerOnResistors r
 
 -- what a reader answers, with another event or with another number for a refusal
 abbrev pub changed : (Event → Event) → (ℕ → ℕ) → Met → Met

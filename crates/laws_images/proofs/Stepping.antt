@@ -24,8 +24,9 @@ use Rattle.state_registers.specs.Writes.{writtenTo, writeOf}
 use Rattle.state_registers.specs.Resets.{resetOf}
 use Rattle.settle_all.specs.Settle.{forcedOf, settledOf, settleOf}
 use Rattle.state_parts.specs.With.{withFlags}
-use Rattle.step_turns.specs.Ranges.{profileInRange, sampleInRange}
-use Rattle.step_turns.specs.Turns.{heldProfile, heldSample, turnOf}
+use Rattle.step_turns.specs.Ranges.{profileInRange, sampleInRange, resistorsInRange}
+use Rattle.step_turns.specs.Coded.{codedOf}
+use Rattle.step_turns.specs.Turns.{heldProfile, heldSample, opensWith, turnOf}
 use Rattle.step_turns.specs.declared.later.Later.{Later}
 use Rattle.step_turns.specs.declared.later.Later.the-variants.{Set, Write, TakeFlags, Observe, Service, Reset}
 use Rattle.step_turns.specs.declared.turn.Turn.{Turn}
@@ -88,6 +89,7 @@ spelled event.TakeFlags k = tt
 spelled (event.Observe x) k = in-turn (sampleInRange x) (Follows (Observe (heldSample x))) FollowsOutside (k .0) tt
 spelled event.Service k = tt
 spelled event.Reset k = tt
+spelled (event.PowerOnResistors r) k = in-turn (resistorsInRange r) (opensWith (codedOf r)) OpensOutside (in-turn (profileInRange (codedOf r)) (Opens (heldProfile (codedOf r))) OpensOutside (k .1 .1 .1 .1 .0) tt) tt
 
 -- settling, flags and what a write leaves move no stamp
 settled : (s : State) (observed : Bool) (f : ℕ) → Stamped s → Stamped (withFlags (settleOf s observed) f)

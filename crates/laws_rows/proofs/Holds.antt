@@ -21,7 +21,8 @@ use Rattle.report_text.specs.Decimal.{decimal, decimalBy}
 use Rattle.report_text.specs.Text.{endText, lineText, headedText}
 use Rattle.step_kinds.specs.Finish.{finishOf}
 use Rattle.step_kinds.specs.Plain.{setOf, writtenOf}
-use Rattle.step_turns.specs.Ranges.{profileInRange, sampleInRange}
+use Rattle.step_pins.specs.Codes.{codeOf}
+use Rattle.step_turns.specs.Ranges.{profileInRange, sampleInRange, resistorsInRange}
 use Rattle.step_turns.specs.Turns.{turnOf}
 use Rattle.log_number.specs.Number.{numberAt, readNumber, readGroups, spell, groups}
 use Rattle.state_parts.specs.Edges.{merged, pulseOf, flagsNumber}
@@ -54,5 +55,5 @@ unfolding rows runText linesText wholeOf endText headedText spellEvent numberAt 
 every-row = (refl, (refl, (refl, (refl, (refl, (refl, (refl, (refl, (refl, (refl, tt))))))))))
 
 pub every-request : EveryRequest
-unfolding requested runText linesText wholeOf endText headedText spellEvent numberAt lineText numbersOf pageOf startWalk stepOf spellItems readNumber decimal walkOf heldOf reportOf firstOf stateOk movedOf readGroups decimalBy recordAt settingNumbers fastCurrent chargeVoltageOf inputLimitOf profileOk settingsOk registersOk cycleOk watchdogOk sampleOk setOf observeOf spell readRecord chargeClampOf shareOf baseOf inPack cutOf mayHold finishOf storeOf writeOf observedOf resetOf groups metBy packClampOf settleOf startState shownOf rangeOf edgesOf merged pulseOf writtenTo countedOf expiredOf clearedIf timesOf unitsOf startSettings resetRegisters lineOf readItems forcedOf latchesOf bandOf settledOf testsOf fieldsAt ranges seenOf recounted withByte takenOf byteAt regulatedOf startVreg startIchg startVsysmin flagsNumber eventOf faultOf shortOf lowOf packOverOf cycleOf phaseOf permittedOf suspendsOf belowRecharge taperOf endingOf fields reachedOf signedOf belowShare clearsOf endsOf judgedOf restartsOf turnedBy changeOf followedOf writtenOf turnOf profileInRange sampleInRange seenOn
-every-request = (refl, (refl, (refl, (refl, (refl, (refl, (refl, tt)))))))
+unfolding requested runText linesText wholeOf endText headedText spellEvent numberAt lineText numbersOf pageOf startWalk stepOf spellItems readNumber decimal walkOf heldOf reportOf firstOf stateOk movedOf readGroups decimalBy recordAt settingNumbers fastCurrent chargeVoltageOf inputLimitOf profileOk settingsOk registersOk cycleOk watchdogOk sampleOk setOf observeOf spell readRecord chargeClampOf shareOf baseOf inPack cutOf mayHold finishOf storeOf writeOf observedOf resetOf groups metBy packClampOf settleOf startState shownOf rangeOf edgesOf merged pulseOf writtenTo countedOf expiredOf clearedIf timesOf unitsOf startSettings resetRegisters lineOf readItems forcedOf latchesOf bandOf settledOf testsOf fieldsAt ranges seenOf recounted withByte takenOf byteAt regulatedOf startVreg startIchg startVsysmin flagsNumber eventOf faultOf shortOf lowOf packOverOf cycleOf phaseOf permittedOf suspendsOf belowRecharge taperOf endingOf fields reachedOf signedOf belowShare clearsOf endsOf judgedOf restartsOf turnedBy changeOf followedOf writtenOf turnOf profileInRange sampleInRange seenOn resistorsInRange codeOf
+every-request = (refl, (refl, (refl, (refl, (refl, (refl, (refl, (refl, (refl, (refl, (refl, (refl, (refl, tt)))))))))))))

@@ -18,6 +18,12 @@ warmSamples =
     ∷ 0x05 ∷ 0xB8 ∷ 0x17 ∷ 0xE0 ∷ 0x5D ∷ 0xD2 ∷ 0x3D ∷ 0x00 ∷ 0xC0 ∷ 0xB8 ∷ 0x02 ∷ 0x00
     ∷ 0x05 ∷ 0xA0 ∷ 0x1F ∷ 0xE0 ∷ 0x5D ∷ 0xD2 ∷ 0x3D ∷ 0xE8 ∷ 0x07 ∷ 0xD8 ∷ 0xAD ∷ 0x03 ∷ 0x00 ∷ []
 
+-- R-5: 01's power-on by its resistors, at CELL, VCHG and ICHG, and those of ILIM; then 01's observation
+abbrev pub solderedLog : List ℕ → List ℕ → List ℕ
+solderedLog pins ilim =
+    0x09 ∷ (pins ++ (ilim ++ (0x00 ∷ 0x94 ∷ 0x23 ∷ 0x90 ∷ 0x1C ∷ 0xA0 ∷ 0x38 ∷ 0xA0 ∷ 0x99 ∷ 0x02 ∷ 0x00
+    ∷ 0x05 ∷ 0xE8 ∷ 0x07 ∷ 0xE0 ∷ 0x5D ∷ 0xB0 ∷ 0x3B ∷ 0x00 ∷ 0xD8 ∷ 0xAD ∷ 0x03 ∷ 0x00 ∷ [])))
+
 unfoldable pub requested : List Row
 requested =
     -- R-1: taper; done, though 7,890 is below 97% of 8,400; still done; back in normal the band alone restarts the cycle
@@ -32,6 +38,15 @@ requested =
     -- "Refusals 4 and 14 keep the record's start": a service, and then a byte that is no kind's; the same before a zero group
     ∷ row (log (0x06 ∷ 0x08 ∷ 0x80 ∷ [])) (bytesOf "1 6 6 0 0 0 0 0 0\nend 1 4 1\n")
     ∷ row (log (0x06 ∷ 0x02 ∷ 0x80 ∷ 0x00 ∷ [])) (bytesOf "1 6 6 0 0 0 0 0 0\nend 1 2 3\n")
+    -- R-5: "From there it acts as kind 1 with those codes": 6,040, 13,700 and 10,500 ohms are 01's codes 2, 5 and 4; so are 5,920, 13,974 and 10,290, at the ends of their spans
+    ∷ row (log (solderedLog (0x98 ∷ 0x2F ∷ 0x84 ∷ 0x6B ∷ 0x84 ∷ 0x52 ∷ []) (0x00 ∷ []))) (bytesOf "1 9 0 0 0 0 3300 1 32\n2 5 0 3 1500 8400 3300 1 97\nend 2 0 31\n")
+    ∷ row (log (solderedLog (0xA0 ∷ 0x2E ∷ 0x96 ∷ 0x6D ∷ 0xB2 ∷ 0x50 ∷ []) (0x00 ∷ []))) (bytesOf "1 9 0 0 0 0 3300 1 32\n2 5 0 3 1500 8400 3300 1 97\nend 2 0 31\n")
+    -- "no match is code 0, a pin fault": 5,919 ohms at CELL; 100,000 at VCHG
+    ∷ row (log (solderedLog (0x9F ∷ 0x2E ∷ 0x84 ∷ 0x6B ∷ 0x84 ∷ 0x52 ∷ []) (0x00 ∷ []))) (bytesOf "1 9 0 0 0 0 3300 1 32\n2 5 0 0 0 0 3300 1 33\nend 2 0 31\n")
+    ∷ row (log (solderedLog (0x98 ∷ 0x2F ∷ 0xA0 ∷ 0x8D ∷ 0x06 ∷ 0x84 ∷ 0x52 ∷ []) (0x00 ∷ []))) (bytesOf "1 9 0 0 0 0 3300 1 32\n2 5 0 0 0 0 3300 1 33\nend 2 0 32\n")
+    -- "ohms above 100,000 are 5": 100,001 at VCHG; the ILIM ohms keep 33,000
+    ∷ row (log (solderedLog (0x98 ∷ 0x2F ∷ 0xA1 ∷ 0x8D ∷ 0x06 ∷ 0x84 ∷ 0x52 ∷ []) (0x00 ∷ []))) (bytesOf "1 9 5 0 0 0 0 0 0\n2 5 6 0 0 0 0 0 0\nend 2 0 32\n")
+    ∷ row (log (solderedLog (0x98 ∷ 0x2F ∷ 0x84 ∷ 0x6B ∷ 0x84 ∷ 0x52 ∷ []) (0xE9 ∷ 0x81 ∷ 0x02 ∷ []))) (bytesOf "1 9 5 0 0 0 0 0 0\n2 5 6 0 0 0 0 0 0\nend 2 0 33\n")
     ∷ []
 
 abbrev pub EveryRequest : Type 0

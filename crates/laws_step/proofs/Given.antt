@@ -1,6 +1,6 @@
 -- Each refusal is given exactly when one of its rows says so.
 use Prim.Native.Nat.{ℕ}
-use mathlib.Core.Path.{_≡_, refl, sym, subst, _∙_}
+use mathlib.Core.Path.{_≡_, refl, sym, ap, subst, _∙_}
 use mathlib.Core.Bool.{Bool, true, false, not, _&&_, false≢true}
 use mathlib.Core.Logic.{_≢_, _⊎_, inl, inr, ⊎-map}
 use native.Mathlib.Omega.{arith}
@@ -11,17 +11,21 @@ use Rattle.base.specs.Stamps.{elapsedOf}
 use Rattle.base.specs.Told.{Told, accepted, refused, answerNumber}
 use Rattle.state_fields.specs.Rows.{frequencyOk}
 use Rattle.log_event.specs.declared.spelled.SpelledProfile.{SpelledProfile}
+use Rattle.log_event.specs.declared.spelled.SpelledResistors.{SpelledResistors}
 use Rattle.log_event.specs.declared.spelled.SpelledSample.{SpelledSample}
+use Rattle.state_parts.specs.declared.profile.Profile.{Profile}
 use Rattle.state_parts.specs.declared.state.State.{State}
 use Rattle.state_parts.specs.declared.state.Model.{Model}
 use Rattle.state_parts.specs.declared.state.Model.the-variants.{Off, On}
 use Rattle.log_event.specs.declared.Event.{Event}
-use Rattle.log_event.specs.declared.Event.the-variants.{PowerOn, Set, Write, TakeFlags, Observe, Service, Reset}
+use Rattle.log_event.specs.declared.Event.the-variants.{PowerOn, Set, Write, TakeFlags, Observe, Service, Reset, PowerOnResistors}
 use Rattle.state_settings.specs.Ranges.{lastSetting, knownSetting, mayHold}
 use Rattle.state_valid.specs.Holds.{stateOk}
-use Rattle.step_turns.specs.Ranges.{profileInRange, sampleInRange}
-use Rattle.step_turns.specs.Turns.{heldProfile, heldSample, turnOf}
+use Rattle.step_turns.specs.Ranges.{profileInRange, sampleInRange, resistorsInRange}
+use Rattle.step_turns.specs.Coded.{codedOf}
+use Rattle.step_turns.specs.Turns.{heldProfile, heldSample, opensWith, turnOf}
 use Rattle.step_turns.specs.declared.later.Later.the-variants as later
+use Rattle.step_turns.specs.declared.turn.Turn.{Turn}
 use Rattle.step_turns.specs.declared.turn.Turn.the-variants.{Opens, Follows, OpensOutside, FollowsOutside}
 use Rattle.state_registers.specs.Reads.{knownAddress}
 use Rattle.state_registers.specs.Writes.{writtenTo, writeOf}
@@ -30,9 +34,9 @@ use Rattle.step_kinds.specs.Changes.{Changed}
 use Rattle.step_kinds.specs.Finish.{finishOf}
 use Rattle.step_kinds.specs.Plain.{afterWrite, setOf, writtenOf}
 use Rattle.step_event.specs.Steps.{observeOf, followedOf, movedOf, firstOf, changeOf, closedBy, turnedBy, stepOf}
-use Rattle.laws_step.specs.Rows.{Among, PowersOn, by-codes, Row, bad-field, bad-profile, bad-byte, bad-sample, not-powered, too-far, no-setting, bad-value, no-address, bad-frequency}
+use Rattle.laws_step.specs.Rows.{Among, ResistorsIn, by-codes, by-resistors, Row, bad-field, bad-profile, bad-resistors, bad-byte, bad-sample, not-powered, too-far, no-setting, bad-value, no-address, bad-frequency}
 use Rattle.laws_step.specs.Theorems.{EachGiven, NumberKnown}
-use Rattle.laws_step.proofs.InRanges.{outside, refuted, failed, among, profile-in, sample-in, value-in, bad-frequency-is}
+use Rattle.laws_step.proofs.InRanges.{outside, refuted, failed, among, profile-in, resistors-in, sample-in, value-in, bad-frequency-is}
 
 -- a change is an accepted event's, or a row gives its number
 abbrev Says : Model → Event → Told Changed → Type 0
@@ -43,12 +47,28 @@ tests : (m : Model) (e : Event) (n : ℕ) (t : Bool) (c : Told Changed) → (t �
 tests m e n true c row else = inr (row refl)
 tests m e n false c row else = else refl
 
-module _ (s : State) (ok : stateOk s ≡ true) where
-  powers : (p : SpelledProfile) (t : Bool) → profileInRange p ≡ t → Says (On s) (PowerOn p) (movedOf s (pick t (Opens (heldProfile p)) OpensOutside))
-  unfolding movedOf
-  powers p true h = inl refl
-  powers p false h = inr (bad-profile (On s) p (outside (profileInRange p) (profile-in p) h))
+-- two tests one after the other are their conjunction
+two-tests : (a b : Bool) (x y : Turn) → pick a (pick b x y) y ≡ pick (a && b) x y
+two-tests true b x y = refl
+two-tests false b x y = refl
 
+-- a power-on, on a model that is on or off
+module _ (m : Model) (change : Turn → Told Changed) (opens : (p : Profile) → answerNumber (change (Opens p)) ≡ 0) (out : answerNumber (change OpensOutside) ≡ 5) where
+  opens-by : (e : Event) (p : Profile) (t : Bool) → (t ≡ false → Row 5 m e) → Says m e (change (pick t (Opens p) OpensOutside))
+  opens-by e p true bad = inl (opens p)
+  opens-by e p false bad = inr (subst (λ (n : ℕ). Row n m e) (sym out) (bad refl))
+
+  powers : (p : SpelledProfile) → Says m (PowerOn p) (change (opensWith p))
+  powers p = opens-by (PowerOn p) (heldProfile p) (profileInRange p) (λ h. bad-profile m p (outside (profileInRange p) (profile-in p) h))
+
+  solders : (r : SpelledResistors) → Says m (PowerOnResistors r) (change (pick (resistorsInRange r) (opensWith (codedOf r)) OpensOutside))
+  solders r =
+      let p = codedOf r in
+      let t = resistorsInRange r && profileInRange p in
+      rw (two-tests (resistorsInRange r) (profileInRange p) (Opens (heldProfile p)) OpensOutside)
+      (opens-by (PowerOnResistors r) (heldProfile p) t (λ h. bad-resistors m r (outside t (resistors-in r) h)))
+
+module _ (s : State) (ok : stateOk s ≡ true) where
   sets : (number value : ℕ) → Says (On s) (Set number value) (setOf s number value)
   unfolding setOf
   sets number value =
@@ -81,18 +101,14 @@ module _ (s : State) (ok : stateOk s ≡ true) where
 
   moves : (e : Event) → Says (On s) e (movedOf s (turnOf e))
   unfolding movedOf followedOf turnOf
-  moves (PowerOn p) = powers p (profileInRange p) refl
+  moves (PowerOn p) = powers (On s) (movedOf s) (λ q. refl) refl p
   moves (Set number value) = sets number value
   moves (Write address byte) = writes address byte
   moves TakeFlags = inl refl
   moves (Observe x) = observes x (sampleInRange x) refl
   moves Service = inl refl
   moves Reset = inl refl
-
-powers-first : (p : SpelledProfile) (t : Bool) → profileInRange p ≡ t → Says Off (PowerOn p) (firstOf (pick t (Opens (heldProfile p)) OpensOutside))
-unfolding firstOf
-powers-first p true h = inl refl
-powers-first p false h = inr (bad-profile Off p (outside (profileInRange p) (profile-in p) h))
+  moves (PowerOnResistors r) = solders (On s) (movedOf s) (λ q. refl) refl r
 
 -- 6 comes before an observation's 5
 not-yet : (x : SpelledSample) (t : Bool) → Says Off (Observe x) (firstOf (pick t (Follows (later.Observe (heldSample x))) FollowsOutside))
@@ -102,13 +118,14 @@ not-yet x false = inr (not-powered (Observe x) (elim [ ]))
 
 first : (e : Event) → Says Off e (firstOf (turnOf e))
 unfolding firstOf turnOf
-first (PowerOn p) = powers-first p (profileInRange p) refl
+first (PowerOn p) = powers Off firstOf (λ q. refl) refl p
 first (Set number value) = inr (not-powered (Set number value) (elim [ ]))
 first (Write address byte) = inr (not-powered (Write address byte) (elim [ ]))
 first TakeFlags = inr (not-powered TakeFlags (elim [ ]))
 first (Observe x) = not-yet x (sampleInRange x)
 first Service = inr (not-powered Service (elim [ ]))
 first Reset = inr (not-powered Reset (elim [ ]))
+first (PowerOnResistors r) = solders Off firstOf (λ q. refl) refl r
 
 tells : (m : Model) (e : Event) → Says m e (changeOf m (turnOf e))
 unfolding changeOf
@@ -134,11 +151,19 @@ by-test : (t : Bool) (n : ℕ) (c : Told Changed) → answerNumber c ≡ n → a
 by-test true n c e = e
 by-test false n c e = refl
 
+outside-range : (r : SpelledResistors) → ¬ ResistorsIn r → pick (resistorsInRange r) (opensWith (codedOf r)) OpensOutside ≡ OpensOutside
+outside-range r out =
+    let p = codedOf r in
+    two-tests (resistorsInRange r) (profileInRange p) (Opens (heldProfile p)) OpensOutside
+    ∙ ap (λ (t : Bool). pick t (Opens (heldProfile p)) OpensOutside) (failed (resistorsInRange r && profileInRange p) (resistors-in r) out)
+
 rows-give : {n : ℕ} {m : Model} {e : Event} → Row n m e → answerNumber (changeOf m (turnOf e)) ≡ n
 unfolding changeOf turnOf movedOf followedOf firstOf writtenOf observeOf setOf
 rows-give (bad-field s e bad) = simp (failed (stateOk s) (λ k. k, λ k. k) bad)
 rows-give (bad-profile Off p out) = simp (failed (profileInRange p) (profile-in p) out)
 rows-give (bad-profile (On s) p out) = by-test (stateOk s) 5 (movedOf s (turnOf (PowerOn p))) (simp (failed (profileInRange p) (profile-in p) out))
+rows-give (bad-resistors Off r out) = simp (outside-range r out)
+rows-give (bad-resistors (On s) r out) = by-test (stateOk s) 5 (movedOf s (turnOf (PowerOnResistors r))) (simp (outside-range r out))
 rows-give (bad-byte s address byte known large) =
     by-test (stateOk s) 5 (writtenOf s address byte) (simp (then-byte s address byte (among address 0x15 0x1C .1 known) (lt-leb byte 255 large)))
 rows-give (bad-sample s x out) = by-test (stateOk s) 5 (movedOf s (turnOf (Observe x))) (simp (failed (sampleInRange x) (sample-in x) out))
@@ -153,6 +178,7 @@ rows-give (not-powered (Observe x) other) = either (sampleInRange x)
     either false = refl
 rows-give (not-powered Service other) = refl
 rows-give (not-powered Reset other) = refl
+rows-give (not-powered (PowerOnResistors r) other) = absurd (other (by-resistors r))
 rows-give (too-far s x ok fits far) = simp (ok, sample-in x .1 fits, lt-ltb 3600000 (elapsedOf (s .sample .stamp) (x .stamp)) far)
 rows-give (no-setting s number value ok out) = simp (ok, failed (knownSetting (s .profile) number) (among number 1 lastSetting) out)
 rows-give (bad-value s number value ok known out) =
@@ -177,6 +203,7 @@ each-given n some m e = (λ given. by (tells-step m e) given, λ row. step-numbe
 known : {n : ℕ} {m : Model} {e : Event} → Row n m e → Among n 5 11
 known (bad-field s e bad) = (omega arith, omega arith)
 known (bad-profile m p out) = (omega arith, omega arith)
+known (bad-resistors m r out) = (omega arith, omega arith)
 known (bad-byte s address byte among large) = (omega arith, omega arith)
 known (bad-sample s x out) = (omega arith, omega arith)
 known (not-powered e other) = (omega arith, omega arith)

@@ -11,11 +11,14 @@ use borrow.Author.Tests.{le-leb, eqb-true, eq-eqb, lt-leb, leb-false, not-true}
 use Rattle.base.proofs.Tests.{and-iff, leb-iff}
 use Rattle.state_fields.specs.Rows.{digitOf, fsw, frequencyOk}
 use Rattle.log_event.specs.declared.spelled.SpelledProfile.{SpelledProfile}
+use Rattle.log_event.specs.declared.spelled.SpelledResistors.{SpelledResistors}
 use Rattle.log_event.specs.declared.spelled.SpelledSample.{SpelledSample}
 use Rattle.state_parts.specs.declared.profile.Profile.{Profile}
 use Rattle.state_settings.specs.Ranges.{lastSetting, rangeOf, knownSetting, mayHold}
-use Rattle.step_turns.specs.Ranges.{profileInRange, sampleInRange}
-use Rattle.laws_step.specs.Rows.{Among, ProfileIn, SampleIn, ValueIn}
+use Rattle.step_pins.proofs.Pins.{pin-table}
+use Rattle.step_turns.specs.Ranges.{profileInRange, sampleInRange, resistorsInRange}
+use Rattle.step_turns.specs.Coded.{codedOf}
+use Rattle.laws_step.specs.Rows.{Among, ProfileIn, ResistorsIn, SampleIn, ValueIn}
 
 -- a test that fails, and the statement that it stands for
 pub outside : {P : Type 0} (t : Bool) → (t ≡ true) ↔ P → t ≡ false → ¬ P
@@ -57,6 +60,40 @@ profile-in p = (
       },
   λ k.
       simp (and-iff, leb-iff) (((((((((k .cell, k .vchg), k .ichg), k .ohms), k .ceiling .0), k .ceiling .1), k .trickle), k .precharge), k .fast), k .watchdog),
+)
+
+-- a resistor's code is one of 0 to 7, so kind 1's ranges leave the numbers from the ILIM ohms on
+pub resistors-in : (r : SpelledResistors) → ((resistorsInRange r && profileInRange (codedOf r)) ≡ true) ↔ ResistorsIn r
+unfolding resistorsInRange
+resistors-in r = (
+  λ e.
+      let k = simp (and-iff, leb-iff) at (and-iff (resistorsInRange r) (profileInRange (codedOf r)) .0 e .0) in
+      let p = profile-in (codedOf r) .0 (and-iff (resistorsInRange r) (profileInRange (codedOf r)) .0 e .1) in
+      record {
+        cell = omega arith;
+        vchg = omega arith;
+        ichg = omega arith;
+        ohms = p .ohms;
+        ceiling = p .ceiling;
+        trickle = p .trickle;
+        precharge = p .precharge;
+        fast = p .fast;
+        watchdog = p .watchdog;
+      },
+  λ k.
+      let p : ProfileIn (codedOf r) =
+      record {
+        cell = pin-table .most (r .cell);
+        vchg = pin-table .most (r .vchg);
+        ichg = pin-table .most (r .ichg);
+        ohms = k .ohms;
+        ceiling = k .ceiling;
+        trickle = k .trickle;
+        precharge = k .precharge;
+        fast = k .fast;
+        watchdog = k .watchdog;
+      } in
+      and-iff (resistorsInRange r) (profileInRange (codedOf r)) .1 (simp (and-iff, leb-iff) ((k .cell, k .vchg), k .ichg), profile-in (codedOf r) .1 p),
 )
 
 pub sample-in : (x : SpelledSample) → (sampleInRange x ≡ true) ↔ SampleIn x

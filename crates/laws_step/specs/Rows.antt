@@ -12,8 +12,9 @@ use Rattle.state_parts.specs.declared.state.State.{State}
 use Rattle.state_parts.specs.declared.state.Model.{Model}
 use Rattle.state_parts.specs.declared.state.Model.the-variants.{Off, On}
 use Rattle.log_event.specs.declared.Event.{Event}
-use Rattle.log_event.specs.declared.Event.the-variants.{PowerOn, Set, Write, Observe}
+use Rattle.log_event.specs.declared.Event.the-variants.{PowerOn, Set, Write, Observe, PowerOnResistors}
 use Rattle.log_event.specs.declared.spelled.SpelledProfile.{SpelledProfile}
+use Rattle.log_event.specs.declared.spelled.SpelledResistors.{SpelledResistors}
 use Rattle.log_event.specs.declared.spelled.SpelledSample.{SpelledSample}
 use Rattle.state_fields.specs.Rows.{digitOf, fsw}
 use Rattle.state_settings.specs.Ranges.{lastSetting, rangeOf}
@@ -34,6 +35,18 @@ pub record ProfileIn (p : SpelledProfile) : Type 0 where
   pub fast : p .fast ≤ 172800
   pub watchdog : p .watchdog ≤ 172800
 
+-- 02, R-5: kind 9: "the CELL, VCHG and ICHG resistors in ohms", of which "ohms above 100,000 are 5", and then kind 1's numbers from the ILIM ohms on
+pub record ResistorsIn (r : SpelledResistors) : Type 0 where
+  pub cell : r .cell ≤ 100000
+  pub vchg : r .vchg ≤ 100000
+  pub ichg : r .ichg ≤ 100000
+  pub ohms : r .ohms ≤ 33000
+  pub ceiling : Among (r .ceiling) 4350 4714
+  pub trickle : r .trickle ≤ 172800
+  pub precharge : r .precharge ≤ 172800
+  pub fast : r .fast ≤ 172800
+  pub watchdog : r .watchdog ≤ 172800
+
 -- "5 observe | stamp; VIN, VBAT 0-45,000; IBAT -10,000 to 5,000; TS 0-100,000; bits 0-63"
 pub record SampleIn (x : SpelledSample) : Type 0 where
   pub input : x .input ≤ 45000
@@ -50,11 +63,13 @@ pub record ValueIn (p : Profile) (number value : ℕ) : Type 0 where
 -- "a power-on's" kinds
 pub data PowersOn : Event → Type 0 where
   by-codes : (p : SpelledProfile) → PowersOn (PowerOn p)
+  by-resistors : (r : SpelledResistors) → PowersOn (PowerOnResistors r)
 
 pub data Row : ℕ → Model → Event → Type 0 where
   -- 5: "a number outside kind 1, 3 or 5's ranges above, or a handed-in model's field outside what it may hold"
   bad-field : (s : State) (e : Event) → stateOk s ≢ true → Row 5 (On s) e
   bad-profile : (m : Model) (p : SpelledProfile) → ¬ ProfileIn p → Row 5 m (PowerOn p)
+  bad-resistors : (m : Model) (r : SpelledResistors) → ¬ ResistorsIn r → Row 5 m (PowerOnResistors r)
   bad-byte : (s : State) (address byte : ℕ) → Among address 0x15 0x1C → 255 < byte → Row 5 (On s) (Write address byte)
   bad-sample : (s : State) (x : SpelledSample) → ¬ SampleIn x → Row 5 (On s) (Observe x)
   -- 6: "any kind but a power-on's, before a power-on"

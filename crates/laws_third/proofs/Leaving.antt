@@ -6,10 +6,10 @@ use Rattle.state_parts.specs.declared.profile.Profile.{Profile}
 use Rattle.state_parts.specs.declared.sample.Sample.{Sample}
 use Rattle.log_event.specs.declared.Event.{Event}
 use Rattle.log_event.specs.declared.Event.the-variants as event
-use Rattle.log_event.specs.declared.spelled.SpelledProfile.{SpelledProfile}
 use Rattle.log_event.specs.declared.spelled.SpelledSample.{SpelledSample}
 use Rattle.state_valid.specs.Holds.{profileOk, sampleOk}
 use Rattle.step_turns.specs.Ranges.{profileInRange, sampleInRange}
+use Rattle.step_turns.specs.Begins.{byCodes}
 use Rattle.step_turns.specs.Turns.{turnOf}
 use Rattle.step_turns.specs.Promises.{LaterFits}
 use Rattle.step_turns.specs.declared.later.Later.{Later}
@@ -19,21 +19,7 @@ use Rattle.laws_account.specs.History.{Run, powered, _▸_}
 use Rattle.laws_account.specs.Refused.{Past, none, some, refusalIn, nextBy, nextOf, pastOf}
 use Rattle.laws_third.specs.Laws.{EveryRunLeft}
 
--- a power-on and an observation with the numbers that are held
-abbrev spelledProfile : Profile → SpelledProfile
-spelledProfile p = record {
-  cell = p .cell;
-  vchg = p .vchg;
-  ichg = p .ichg;
-  ohms = p .ohms;
-  stamp = p .stamp;
-  ceiling = p .ceiling;
-  trickle = p .trickle;
-  precharge = p .precharge;
-  fast = p .fast;
-  watchdog = p .watchdog;
-}
-
+-- an observation with the numbers that are held
 abbrev spelledSample : Sample → SpelledSample
 spelledSample x = record { stamp = x .stamp; input = x .input; pack = x .pack; ibat = x .ibat; ts = x .ts; bits = x .bits }
 
@@ -45,7 +31,7 @@ eventFor (Observe x) = event.Observe (spelledSample x)
 eventFor Service = event.Service
 eventFor Reset = event.Reset
 
-opens : (p : Profile) → profileOk p ≡ true → turnOf (event.PowerOn (spelledProfile p)) ≡ Opens p
+opens : (p : Profile) → profileOk p ≡ true → turnOf (event.PowerOn (byCodes p)) ≡ Opens p
 unfolding turnOf profileInRange profileOk
 opens p h = rw h
 
@@ -63,7 +49,7 @@ unfolding pastOf
 past-more [] h e = refl
 past-more (f ∷ es) h e = past-more es (nextOf h f) e
 
-opened : (p : Profile) → profileOk p ≡ true → pastOf none (event.PowerOn (spelledProfile p) ∷ []) ≡ some (powered p)
+opened : (p : Profile) → profileOk p ≡ true → pastOf none (event.PowerOn (byCodes p) ∷ []) ≡ some (powered p)
 unfolding pastOf nextOf
 opened p h = ap (λ t. nextBy none t) (opens p h)
 
@@ -72,7 +58,7 @@ unfolding nextOf
 followed r e fits h = ap (λ t. nextBy (some r) t) (follows e fits) ∙ rw h
 
 pub every-run-left : EveryRunLeft
-every-run-left (powered p) a = (event.PowerOn (spelledProfile p) ∷ [], opened p a)
+every-run-left (powered p) a = (event.PowerOn (byCodes p) ∷ [], opened p a)
 every-run-left (r ▸ e) a =
     let before = every-run-left r (a .0) in
     (before .0 ++ (eventFor e ∷ []), past-more (before .0) none (eventFor e) ∙ ap (λ h. nextOf h (eventFor e)) (before .1) ∙ followed r e (a .1 .0) (a .1 .1))

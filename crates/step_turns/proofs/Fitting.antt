@@ -7,10 +7,12 @@ use Rattle.log_event.specs.declared.Event.the-variants as event
 use Rattle.log_event.specs.declared.spelled.SpelledProfile.{SpelledProfile}
 use Rattle.log_event.specs.declared.spelled.SpelledSample.{SpelledSample}
 use Rattle.state_valid.specs.Holds.{profileOk, sampleOk}
-use Rattle.step_turns.specs.Ranges.{profileInRange, sampleInRange}
-use Rattle.step_turns.specs.Turns.{heldProfile, heldSample, turnOf}
+use Rattle.step_turns.specs.Ranges.{profileInRange, sampleInRange, resistorsInRange}
+use Rattle.step_turns.specs.Coded.{codedOf}
+use Rattle.step_turns.specs.Turns.{heldProfile, heldSample, opensWith, turnOf}
 use Rattle.step_turns.specs.Promises.{TurnFits, EveryTurnFits}
 use Rattle.step_turns.specs.declared.later.Later.the-variants.{Observe}
+use Rattle.step_turns.specs.declared.turn.Turn.{Turn}
 use Rattle.step_turns.specs.declared.turn.Turn.the-variants.{Opens, Follows, OpensOutside, FollowsOutside}
 
 pub profile-held : (p : SpelledProfile) → profileOk (heldProfile p) ≡ profileInRange p
@@ -29,6 +31,10 @@ observes-by : (x : SpelledSample) (b : Bool) → sampleOk (heldSample x) ≡ b �
 observes-by x true e = e
 observes-by x false e = refl
 
+within-by : (t : Turn) (b : Bool) → TurnFits t → TurnFits (pick b t OpensOutside)
+within-by t true h = h
+within-by t false h = refl
+
 pub every-turn-fits : EveryTurnFits
 unfolding turnOf
 every-turn-fits (event.PowerOn p) = opens-by p (profileInRange p) (profile-held p)
@@ -38,3 +44,4 @@ every-turn-fits event.TakeFlags = refl
 every-turn-fits (event.Observe x) = observes-by x (sampleInRange x) (sample-held x)
 every-turn-fits event.Service = refl
 every-turn-fits event.Reset = refl
+every-turn-fits (event.PowerOnResistors r) = within-by (opensWith (codedOf r)) (resistorsInRange r) (opens-by (codedOf r) (profileInRange (codedOf r)) (profile-held (codedOf r)))

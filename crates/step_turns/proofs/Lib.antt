@@ -1,2 +1,3 @@
 -- The laws of the crate `step_turns`.
 pub mod Fitting
+pub mod Beginning

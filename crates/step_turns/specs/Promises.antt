@@ -1,9 +1,12 @@
--- What is promised of every event: what is held of numbers in their ranges is what a held part may be.
+-- What is promised of every event: what is held of numbers in their ranges is what a held part may be, and a run begins with what its power-on says.
 use mathlib.Core.Path.{_≡_}
 use mathlib.Core.Bool.{Bool, true}
+use mathlib.Core.Logic.{_⊎_}
 use Rattle.log_event.specs.declared.Event.{Event}
+use Rattle.state_parts.specs.declared.profile.Profile.{Profile}
 use Rattle.state_valid.specs.Holds.{profileOk, sampleOk}
 use Rattle.step_turns.specs.Turns.{turnOf}
+use Rattle.step_turns.specs.Begins.{Begins}
 use Rattle.step_turns.specs.declared.later.Later.{Later}
 use Rattle.step_turns.specs.declared.later.Later.the-variants.{Set, Write, TakeFlags, Observe, Service, Reset}
 use Rattle.step_turns.specs.declared.turn.Turn.{Turn}
@@ -31,3 +34,8 @@ TurnFits t = turnOk t ≡ true
 
 abbrev pub EveryTurnFits : Type 0
 EveryTurnFits = (e : Event) → TurnFits (turnOf e)
+
+-- an event that says a profile opens a run with it, or a number of it is outside its range; and no other event opens one
+pub record BeginsAsSaid : Type 0 where
+  pub opens : (e : Event) (p : Profile) → Begins e p → (turnOf e ≡ Opens p) ⊎ (turnOf e ≡ OpensOutside)
+  pub said : (e : Event) (p : Profile) → turnOf e ≡ Opens p → Begins e p

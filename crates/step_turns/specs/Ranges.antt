@@ -1,9 +1,10 @@
--- 01, "Events and their log spelling": the ranges of kind 1's and kind 5's numbers. 5: "a number outside kind 1, 3 or 5's ranges above". Kind 3's byte is judged after its address.
+-- 01, "Events and their log spelling": the ranges of kind 1's and kind 5's numbers; 02, R-5: of the three that kind 9 has for codes. 5: "a number outside kind 1, 3 or 5's ranges above". Kind 3's byte is judged after its address.
 use mathlib.Core.Bool.{Bool, _&&_}
 use lib.Dec.{leb}
 use lib.IntN.{pos, negsuc}
 use lib.Signed.{leZ}
 use Rattle.log_event.specs.declared.spelled.SpelledProfile.{SpelledProfile}
+use Rattle.log_event.specs.declared.spelled.SpelledResistors.{SpelledResistors}
 use Rattle.log_event.specs.declared.spelled.SpelledSample.{SpelledSample}
 
 -- "1 power-on | cell, vchg, ichg codes 0-7; ILIM ohms 0-33,000; stamp; cell ceiling 4,350-4,714; trickle, precharge, fast limits and watchdog period in seconds, 0-172,800"
@@ -17,3 +18,7 @@ unfoldable pub sampleInRange : SpelledSample → Bool
 sampleInRange x =
     leb (x .input) 45000 && leb (x .pack) 45000 && leZ (negsuc 9999) (x .ibat) && leZ (x .ibat) (pos 5000) && leb (x .ts) 100000
     && leb (x .bits) 63
+
+-- R-5: "ohms above 100,000 are 5"
+unfoldable pub resistorsInRange : SpelledResistors → Bool
+resistorsInRange r = leb (r .cell) 100000 && leb (r .vchg) 100000 && leb (r .ichg) 100000

@@ -6,7 +6,8 @@ use Rattle.log_event.specs.declared.spelled.SpelledProfile.{SpelledProfile}
 use Rattle.log_event.specs.declared.spelled.SpelledSample.{SpelledSample}
 use Rattle.state_parts.specs.declared.profile.Profile.{Profile}
 use Rattle.state_parts.specs.declared.sample.Sample.{Sample}
-use Rattle.step_turns.specs.Ranges.{profileInRange, sampleInRange}
+use Rattle.step_turns.specs.Ranges.{profileInRange, sampleInRange, resistorsInRange}
+use Rattle.step_turns.specs.Coded.{codedOf}
 use Rattle.step_turns.specs.declared.later.Later.{Later}
 use Rattle.step_turns.specs.declared.later.Later.the-variants.{Set, Write, TakeFlags, Observe, Service, Reset}
 use Rattle.step_turns.specs.declared.turn.Turn.{Turn}
@@ -31,12 +32,18 @@ heldProfile p = record {
 abbrev pub heldSample : SpelledSample → Sample
 heldSample x = record { stamp = x .stamp; input = x .input; pack = x .pack; ibat = x .ibat; ts = x .ts; bits = x .bits }
 
+-- a power-on with these numbers
+abbrev pub opensWith : SpelledProfile → Turn
+opensWith p = pick (profileInRange p) (Opens (heldProfile p)) OpensOutside
+
 -- "1 power-on", "2 set", "3 write", "4 take flags", "5 observe", "6 service watchdog", "7 register reset"
 unfoldable pub turnOf : Event → Turn
-turnOf (event.PowerOn p) = pick (profileInRange p) (Opens (heldProfile p)) OpensOutside
+turnOf (event.PowerOn p) = opensWith p
 turnOf (event.Set number value) = Follows (Set number value)
 turnOf (event.Write address byte) = Follows (Write address byte)
 turnOf event.TakeFlags = Follows TakeFlags
 turnOf (event.Observe x) = pick (sampleInRange x) (Follows (Observe (heldSample x))) FollowsOutside
 turnOf event.Service = Follows Service
 turnOf event.Reset = Follows Reset
+-- 02, R-5: "Power-on gets a second event, kind 9 .. From there it acts as kind 1 with those codes"
+turnOf (event.PowerOnResistors r) = pick (resistorsInRange r) (opensWith (codedOf r)) OpensOutside

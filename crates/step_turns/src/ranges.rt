@@ -1,7 +1,8 @@
-// The ranges of kind 1's and kind 5's numbers.
+// The ranges of kind 1's and kind 5's numbers, and of the three that kind 9 has for codes.
 ghost use mathlib.Core.Path.{_≡_};
-ghost use Rattle.step_turns.specs.Ranges.{profileInRange, sampleInRange};
+ghost use Rattle.step_turns.specs.Ranges.{profileInRange, sampleInRange, resistorsInRange};
 use log_event::spelled::SpelledProfile;
+use log_event::spelled::SpelledResistors;
 use log_event::spelled::SpelledSample;
 
 // A power-on's numbers in their ranges.
@@ -30,4 +31,11 @@ pub fn sample_in_range(x: SpelledSample) -> bool
         & (x.ibat <= 5000)
         & (x.ts <= 100000)
         & (x.bits <= 63)
+}
+
+// The resistors of a power-on in their range.
+pub fn resistors_in_range(r: SpelledResistors) -> bool
+    ensures { λ t. ⌜ t ≡ resistorsInRange r ⌝ }
+{
+    (r.cell <= 100000) & (r.vchg <= 100000) & (r.ichg <= 100000)
 }

@@ -1,6 +1,7 @@
 // An event as what it does to a model.
 ghost use mathlib.Core.Path.{_≡_};
-ghost use Rattle.step_turns.specs.Turns.{heldProfile, heldSample, turnOf};
+ghost use Rattle.step_turns.specs.Turns.{heldProfile, heldSample, opensWith, turnOf};
+use crate::coded;
 use crate::later::Later;
 use crate::ranges;
 use log_event::Event;
@@ -49,18 +50,23 @@ fn held_sample(x: SpelledSample) -> Sample
     }
 }
 
+// What a power-on with these numbers does.
+fn opens_with(p: SpelledProfile) -> Turn
+    ensures { λ r. ⌜ r ≡ opensWith p ⌝ }
+{
+    if ranges::profile_in_range(p) {
+        Turn::Opens(held_profile(p))
+    } else {
+        Turn::OpensOutside
+    }
+}
+
 // What an event does.
 pub fn turn_of(e: Event) -> Turn
     ensures { λ r. ⌜ r ≡ turnOf e ⌝ }
 {
     match e {
-        Event::PowerOn(p) => {
-            if ranges::profile_in_range(p) {
-                Turn::Opens(held_profile(p))
-            } else {
-                Turn::OpensOutside
-            }
-        }
+        Event::PowerOn(p) => opens_with(p),
         Event::Set(number, value) => Turn::Follows(Later::Set(number, value)),
         Event::Write(address, byte) => Turn::Follows(Later::Write(address, byte)),
         Event::TakeFlags => Turn::Follows(Later::TakeFlags),
@@ -73,5 +79,12 @@ pub fn turn_of(e: Event) -> Turn
         }
         Event::Service => Turn::Follows(Later::Service),
         Event::Reset => Turn::Follows(Later::Reset),
+        Event::PowerOnResistors(r) => {
+            if ranges::resistors_in_range(r) {
+                opens_with(coded::coded(r))
+            } else {
+                Turn::OpensOutside
+            }
+        }
     }
 }

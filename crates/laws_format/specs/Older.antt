@@ -1,0 +1,47 @@
+-- A program by an older table of kinds, and a log that a newer one wrote. 02, R-9: "An old program stops there with 4"; so it does at R-5's kind 9. It is said of every table and of every
+-- kind that the table lacks.
+use Prim.Native.Nat.{ℕ, _+_}
+use mathlib.Core.Path.{_≡_}
+use mathlib.Core.List.{List, [], _∷_, _++_}
+use mathlib.Core.Option.{none, some}
+use lib.ListN.{length}
+use Rattle.log_event.specs.Kinds.{KindRow, kindByte, kindRow, kindRows, rowFor}
+use Rattle.log_event.specs.Events.{kindOf}
+use Rattle.log_event.specs.declared.Event.{Event}
+use Rattle.log_event.specs.declared.kinds.Kind.the-variants.{PowerOn, Set, Write, TakeFlags, Observe, Service, Reset}
+use Rattle.log_record.specs.Records.{met, refused, recordAt}
+use Rattle.laws_format.specs.Format.{Spells}
+use Rattle.laws_format.specs.Readers.{Reader}
+
+-- a reader by a table of kinds; this product's is by `kinds`
+abbrev pub readsBy : List KindRow → Reader
+readsBy table = recordAt table
+
+-- a table lacks the kind of a byte
+abbrev pub Lacks : List KindRow → ℕ → Type 0
+Lacks table byte = rowFor table byte ≡ none
+
+-- a table has an event's kind, with the row that this product has for it
+abbrev pub Has : List KindRow → Event → Type 0
+Has table e = rowFor table (kindByte (kindOf e)) ≡ some (kindRow (kindOf e))
+
+abbrev pub HasAll : List KindRow → List Event → Type 0
+HasAll table [] = Unit {0}
+HasAll table (e ∷ es) = Has table e × HasAll table es
+
+pub record OldReader (table : List KindRow) : Type 0 where
+  -- an event of a kind that it has is read back, at every place of every log
+  pub reads : (e : Event) (spelling : List ℕ) → Has table e → Spells e spelling → (before rest : List ℕ)
+      → readsBy table (before ++ (spelling ++ rest)) (length before) ≡ met e (length before + length spelling)
+  -- where a kind stands that it lacks it stops, with 4 and the record's start, whatever follows
+  pub stops : (byte : ℕ) → Lacks table byte → (before rest : List ℕ) → readsBy table (before ++ (byte ∷ rest)) (length before) ≡ refused 4 (length before)
+
+abbrev pub EveryOldReader : Type 0
+EveryOldReader = (table : List KindRow) → OldReader table
+
+-- the table before 02, R-5: it lacks 9
+abbrev pub baseKinds : List KindRow
+baseKinds = kindRows (PowerOn ∷ Set ∷ Write ∷ TakeFlags ∷ Observe ∷ Service ∷ Reset ∷ [])
+
+abbrev pub BaseLacksNine : Type 0
+BaseLacksNine = Lacks baseKinds 9

@@ -1,0 +1,90 @@
+-- A run begins with the profile that its power-on's numbers say.
+use Prim.Native.Nat.{ℕ, zero, suc}
+use mathlib.Core.Path.{_≡_, refl, sym, ap, subst, _∙_}
+use mathlib.Core.Bool.{Bool, true, false}
+use mathlib.Core.Logic.{_⊎_, inl, inr}
+use native.Mathlib.Omega.{arith}
+use Rattle.base.specs.Pick.{pick}
+use Rattle.log_event.specs.declared.Event.{Event}
+use Rattle.log_event.specs.declared.Event.the-variants as event
+use Rattle.state_parts.specs.declared.profile.Profile.{Profile}
+use Rattle.step_pins.specs.Codes.{codeOf}
+use Rattle.step_pins.proofs.Pins.{pin-table}
+use Rattle.step_turns.specs.Ranges.{profileInRange, sampleInRange, resistorsInRange}
+use Rattle.step_turns.specs.Coded.{codedOf}
+use Rattle.step_turns.specs.Turns.{heldProfile, heldSample, opensWith, turnOf}
+use Rattle.step_turns.specs.Begins.{StandsFor, in-span, in-none, byCodes, byResistors, Begins, coded, soldered}
+use Rattle.step_turns.specs.Promises.{BeginsAsSaid}
+use Rattle.step_turns.specs.declared.later.Later.the-variants.{Observe}
+use Rattle.step_turns.specs.declared.turn.Turn.{Turn}
+use Rattle.step_turns.specs.declared.turn.Turn.the-variants.{Opens, Follows, OpensOutside, FollowsOutside}
+
+-- ---- a resistor's code
+stands : (ohms : ℕ) → StandsFor ohms (codeOf ohms)
+stands ohms = by (codeOf ohms) refl
+  where
+    by : (c : ℕ) → codeOf ohms ≡ c → StandsFor ohms c
+    by zero e = in-none (pin-table .none ohms .0 e)
+    by (suc i) e = in-span i (pin-table .code i ohms .0 e)
+
+stands-for : {ohms c : ℕ} → StandsFor ohms c → codeOf ohms ≡ c
+stands-for {ohms} (in-span i w) = pin-table .code i ohms .1 w
+stands-for {ohms} (in-none out) = pin-table .none ohms .1 out
+
+-- ---- what a turn opens with
+abbrev OpensAs : Turn → Profile → Type 0
+OpensAs t p = (t ≡ Opens p) ⊎ (t ≡ OpensOutside)
+
+by-test : (b : Bool) (t : Turn) (p : Profile) → OpensAs t p → OpensAs (pick b t OpensOutside) p
+by-test true t p h = h
+by-test false t p h = inr refl
+
+opens : (e : Event) (p : Profile) → Begins e p → OpensAs (turnOf e) p
+unfolding turnOf
+opens _ _ (coded p) = by-test (profileInRange (byCodes p)) (Opens p) p (inl refl)
+opens _ _ (soldered p cell vchg ichg a b c) =
+    let r = byResistors cell vchg ichg p in
+    let is : Opens (heldProfile (codedOf r)) ≡ Opens p = rw (stands-for a, stands-for b, stands-for c) in
+    by-test (resistorsInRange r) (opensWith (codedOf r)) p (by-test (profileInRange (codedOf r)) (Opens (heldProfile (codedOf r))) p (inl is))
+
+-- ---- no other event opens a run
+abbrev opened : Profile → Turn → Profile
+opened other (Opens p) = p
+opened other (Follows e) = other
+opened other OpensOutside = other
+opened other FollowsOutside = other
+
+abbrev isOpen : Turn → ℕ
+isOpen (Opens p) = 1
+isOpen (Follows e) = 0
+isOpen OpensOutside = 0
+isOpen FollowsOutside = 0
+
+closed : {A : Type 0} (t : Turn) (p : Profile) → isOpen t ≡ 0 → t ≡ Opens p → A
+closed t p z e = absurd (let y : isOpen t ≡ 1 = ap isOpen e in omega (arith, y, z))
+
+same : (e : Event) (p q : Profile) → Begins e p → turnOf e ≡ Opens q → Begins e q
+same e p q b o = by (opens e p b)
+  where
+    by : OpensAs (turnOf e) p → Begins e q
+    by (inl h) = subst (λ (x : Profile). Begins e x) (ap (opened p) (sym h ∙ o)) b
+    by (inr h) = closed (turnOf e) q (ap isOpen h) o
+
+said : (e : Event) (p : Profile) → turnOf e ≡ Opens p → Begins e p
+unfolding turnOf
+said (event.PowerOn q) p e = same (event.PowerOn q) (heldProfile q) p (coded (heldProfile q)) e
+said (event.Set number value) p e = closed _ p refl e
+said (event.Write address byte) p e = closed _ p refl e
+said event.TakeFlags p e = closed _ p refl e
+said (event.Observe x) p e = either (sampleInRange x) e
+  where
+    either : (b : Bool) → pick b (Follows (Observe (heldSample x))) FollowsOutside ≡ Opens p → Begins (event.Observe x) p
+    either true e = closed _ p refl e
+    either false e = closed _ p refl e
+said event.Service p e = closed _ p refl e
+said event.Reset p e = closed _ p refl e
+said (event.PowerOnResistors r) p e =
+    same (event.PowerOnResistors r) (heldProfile (codedOf r)) p (soldered (heldProfile (codedOf r)) (r .cell) (r .vchg) (r .ichg) (stands (r .cell)) (stands (r .vchg)) (stands (r .ichg))) e
+
+pub begins-as-said : BeginsAsSaid
+begins-as-said = record { opens = opens; said = said }
