@@ -50,5 +50,6 @@ void show_the_example(void);
 void show_two_heads(void);
 void show_bad_images(void);
 void show_refusals(void);
+void show_resistors(void);
 
 #endif

@@ -7,5 +7,6 @@ int main(void) {
     show_two_heads();
     show_bad_images();
     show_refusals();
+    show_resistors();
     return failures != 0;
 }

@@ -34,6 +34,9 @@ static const struct {
     {{CHEUKDANE_KIND_SERVICE, 2, 9, 0x80, 0x80, 0x80, 0x80, 0x80, 0x80}, CHEUKDANE_REFUSED_TOO_LARGE, 7},
     {{CHEUKDANE_KIND_SERVICE, 2, 9, 0xFF, 0xFF, 0xFF, 0xFF, 0x10, 0x00}, CHEUKDANE_REFUSED_TOO_LARGE, 7},
     {{CHEUKDANE_KIND_SERVICE, 8, 0x80, 0x00, 0x80, 0x00, 0x00, 0x00, 0x00}, CHEUKDANE_REFUSED_UNKNOWN_KIND, 1},
+    {{CHEUKDANE_KIND_SERVICE, 9, 0x98, 0x2F, 0x84, 0x6B, 0x84, 0x52, 0x00}, CHEUKDANE_REFUSED_ENDS_INSIDE, 9},
+    {{CHEUKDANE_KIND_SERVICE, 9, 0x98, 0x2F, 0x84, 0xEB, 0x00, 0x84, 0x52}, CHEUKDANE_REFUSED_ZERO_GROUP, 6},
+    {{CHEUKDANE_KIND_SERVICE, 10, 0x80, 0x00, 0x80, 0x00, 0x00, 0x00, 0x00}, CHEUKDANE_REFUSED_UNKNOWN_KIND, 1},
 };
 
 static void bytes_that_decide(void) {
@@ -83,8 +86,8 @@ static void short_buffers(void) {
     shown(before, "answer buffers of every length");
 }
 
-static void short_records(void) {
-    int before = failures;
+/* The longest record of a kind that has ten numbers. */
+static void longest_record(uint32_t kind) {
     uint8_t words[40], out[CHEUKDANE_RECORD + 8], whole[CHEUKDANE_RECORD + 8];
     const uint32_t most[10] = {0xFFFFFFFFu, 0xFFFFFFFFu, 0xFFFFFFFFu, 0xFFFFFFFFu, 0xFFFFFFFFu,
                                0xFFFFFFFFu, 0xFFFFFFFFu, 0xFFFFFFFFu, 0xFFFFFFFFu, 0xFFFFFFFFu};
@@ -92,13 +95,24 @@ static void short_records(void) {
     memset(whole, 0xEE, sizeof whole);
     for (size_t length = 0; length <= sizeof out; length++) {
         memset(out, 0xEE, sizeof out);
-        struct cheukdane_written written = cheukdane_write(1, words, sizeof words, length ? out : NULL, length);
+        struct cheukdane_written written = cheukdane_write(kind, words, sizeof words, length ? out : NULL, length);
         int fits = length >= CHEUKDANE_RECORD;
-        holds(written.number == (fits ? 0u : 12u) && written.count == (fits ? CHEUKDANE_RECORD : 0u), "the longest record fits or is 12");
+        holds(written.number == (fits ? 0u : 12u) && written.count == (fits ? CHEUKDANE_RECORD : 0u),
+              "the longest record fits or is 12");
+        holds(!fits || out[0] == kind, "it starts with its kind");
         holds(same(out + written.count, whole, sizeof whole - written.count), "bytes after a record stay");
     }
+}
+
+static void short_records(void) {
+    int before = failures;
+    uint8_t words[40] = {0}, out[CHEUKDANE_RECORD];
+    longest_record(CHEUKDANE_KIND_POWER_ON);
+    longest_record(CHEUKDANE_KIND_POWER_ON_RESISTORS);
     holds(cheukdane_write(0, NULL, 0, out, sizeof out).number == 4, "kind 0 is 4");
     holds(cheukdane_write(8, NULL, 0, out, sizeof out).number == 4, "kind 8 is 4");
+    holds(cheukdane_write(10, NULL, 0, out, sizeof out).number == 4, "kind 10 is 4");
+    holds(cheukdane_write(9, words, 36, out, sizeof out).number == 5, "a power-on by resistors of nine numbers is 5");
     holds(cheukdane_write(2, words, 4, out, sizeof out).number == 5, "a set of one number is 5");
     shown(before, "record buffers of every length, and events that aren't");
 }
@@ -109,6 +123,10 @@ static void refusals(void) {
     const struct event service = {6, 0, {0}};
     const struct event bad[] = {
         {1, 10, {8, 5, 4, 0, 0, 4500, 0, 0, 0, 0}},
+        {CHEUKDANE_KIND_POWER_ON_RESISTORS, 10, {100001, 13700, 10500, 0, 0, 4500, 0, 0, 0, 0}},
+        {CHEUKDANE_KIND_POWER_ON_RESISTORS, 10, {6040, 100001, 10500, 0, 0, 4500, 0, 0, 0, 0}},
+        {CHEUKDANE_KIND_POWER_ON_RESISTORS, 10, {6040, 13700, 0xFFFFFFFFu, 0, 0, 4500, 0, 0, 0, 0}},
+        {CHEUKDANE_KIND_POWER_ON_RESISTORS, 10, {6040, 13700, 10500, 33001, 0, 4500, 0, 0, 0, 0}},
         {2, 2, {15, 0}},
         {2, 2, {1, 2405}},
         {3, 2, {0x14, 0}},
@@ -116,7 +134,7 @@ static void refusals(void) {
         {3, 2, {0x16, 7}},
         {5, 6, {3601001, 0, 0, 0, 0, 0}},
     };
-    const uint32_t numbers[] = {5, 8, 9, 10, 5, 11, 7};
+    const uint32_t numbers[] = {5, 5, 5, 5, 5, 8, 9, 10, 5, 11, 7};
     struct head head;
     uint8_t show[CHEUKDANE_SHOWN], kept[CHEUKDANE_IMAGE], words[40], record[CHEUKDANE_RECORD];
     start(&head);

@@ -60,7 +60,7 @@ fn held_flags(model: &Model) -> u32 {
 fn by_held_band(before: &Powered, event: &Event, step: Step) -> Step {
     let Model::On(mut after) = step.model else { return step };
     let derived = before.band == band_number(&before.state);
-    if derived || step.refusal.is_some() || matches!(event, Event::PowerOn(_)) {
+    if derived || step.refusal.is_some() || event.profile().is_some() {
         return step;
     }
     let edges = edges_alone(&before.state, event);

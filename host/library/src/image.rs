@@ -47,9 +47,9 @@ impl Held {
 
     /// What is held after `event` on this made `model`.
     pub fn after(&self, event: &Event, model: &Model) -> Held {
-        match (model, event, self) {
+        match (model, event.profile(), self) {
             (Model::Off, _, _) => Held::Off,
-            (Model::On(state), Event::PowerOn(profile), _) => {
+            (Model::On(state), Some(profile), _) => {
                 Held::On(Powered::new(profile.cell, profile.stamp, *state))
             }
             (Model::On(state), _, Held::On(old)) => {

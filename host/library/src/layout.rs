@@ -2,16 +2,17 @@
 //! words stand.
 
 /// The number of the rules.
-pub const RULES: u32 = 3;
+pub const RULES: u32 = 4;
 /// The format of an image: word 0 of a model that is on.
-pub const FORMAT: u32 = 3;
+pub const FORMAT: u32 = 4;
 /// Bytes of a word.
 pub const WORD: usize = 4;
 /// Words of an image.
 pub const IMAGE_WORDS: usize = 54;
 /// Bytes of an image.
 pub const IMAGE: usize = 216;
-/// The word of an image at which the power-on's ten numbers start.
+/// The word of an image at which the power-on's ten numbers start, as kind 1
+/// has them.
 pub const PROFILE: usize = 1;
 /// The word at which settings 1 to 14 start.
 pub const SETTINGS: usize = 11;

@@ -5,8 +5,7 @@ use library::both;
 use library::image::{self, Held, Powered};
 use library::layout::{bytes_of, IMAGE, RECORD, REPORT, SHOWN};
 use library::tally::Tally;
-use reference::event::Profile;
-use reference::generate::{any_event, any_state, times, Rng};
+use reference::generate::{any_event, any_state, events_of, times, Rng};
 use reference::record::{encode, numbers_of};
 use reference::{Event, Sample};
 
@@ -74,14 +73,14 @@ fn long_buffers() {
 #[test]
 fn a_short_buffer_comes_after_the_image_and_before_all_else() {
     let mut tally = Tally::default();
-    let logs: [&[u8]; 6] =
-        [&[], &[9], &[2], &[2, 0x80, 0], &[4], &[2, 0xFF, 0xFF, 0xFF, 0xFF, 0xFF]];
+    let logs: [&[u8]; 7] =
+        [&[], &[8], &[9], &[2], &[2, 0x80, 0], &[4], &[2, 0xFF, 0xFF, 0xFF, 0xFF, 0xFF]];
     for length in 0..SHOWN {
         for log in logs {
             tally.count(both::play(&mut [0; IMAGE], log, 0, &mut buffer(length)).number);
             assert_eq!(both::play(&mut [2; IMAGE], log, 0, &mut buffer(length)).number, 5);
         }
-        for kind in [0, 1, 4, 8, 256] {
+        for kind in [0, 1, 4, 8, 9, 256] {
             tally.count(both::event(&mut [0; IMAGE], kind, &[], &mut buffer(length)).number);
             assert_eq!(both::event(&mut [2; IMAGE], kind, &[], &mut buffer(length)).number, 5);
         }
@@ -133,22 +132,13 @@ fn records_of_every_width() {
 }
 
 #[test]
-fn the_longest_record() {
-    let most = u32::MAX;
-    let longest = Event::PowerOn(Profile {
-        cell: most,
-        vchg: most,
-        ichg: most,
-        ohms: most,
-        stamp: most,
-        ceiling: most,
-        trickle: most,
-        precharge: most,
-        fast: most,
-        watchdog: most,
-    });
-    assert_eq!(encode(&longest).len(), RECORD);
-    write_at_every_length(&longest, &mut Tally::default());
+fn the_longest_records() {
+    for kind in [1, 9] {
+        let spelled = [vec![kind], [0xFF, 0xFF, 0xFF, 0xFF, 0x0F].repeat(10)].concat();
+        let longest = events_of(&spelled).remove(0);
+        assert_eq!(encode(&longest).len(), RECORD);
+        write_at_every_length(&longest, &mut Tally::default());
+    }
 }
 
 /// A log written event by event, each lent the part that is left, is the

@@ -9,7 +9,8 @@ use reference::record::{encode, numbers_of};
 use reference::Event;
 
 /// How many numbers each kind has.
-const COUNTS: [(u32, usize); 7] = [(1, 10), (2, 2), (3, 2), (4, 0), (5, 6), (6, 0), (7, 0)];
+const COUNTS: [(u32, usize); 8] =
+    [(1, 10), (2, 2), (3, 2), (4, 0), (5, 6), (6, 0), (7, 0), (9, 10)];
 
 fn given(image: &mut [u8], event: &Event, shown: &mut [u8]) -> u32 {
     let words = bytes_of(&numbers_of(event));
@@ -75,8 +76,8 @@ fn words_of_every_count() {
 fn unknown_kinds() {
     let mut rng = Rng::new(18);
     let words = bytes_of(&[1; 10]);
-    let large = (8..32).flat_map(|shift| (0..8).map(move |low| (1u32 << shift) + low));
-    for kind in [0, u32::MAX].into_iter().chain(8..=300).chain(large) {
+    let large = (8..32).flat_map(|shift| (0..10).map(move |low| (1u32 << shift) + low));
+    for kind in [0, 8, u32::MAX].into_iter().chain(10..=300).chain(large) {
         let mut bad = [1; 4].repeat(IMAGE / 4);
         bad[..4].copy_from_slice(&1u32.to_le_bytes());
         for length in [0, 3, 8, 24, 40] {
@@ -100,7 +101,7 @@ fn unknown_kinds_on_a_model_that_does_not_pass() {
         let state = reference::State { ohms: 33_001, ..any_state(&mut rng) };
         let bytes = image::of(&Held::On(Powered::new(0, 0, state)));
         let give = |kind| both::event(&mut bytes.clone(), kind, &[], &mut [0; SHOWN]).number;
-        assert_eq!([give(0), give(8), give(4), give(1)], [4, 4, 5, 5]);
+        assert_eq!([0, 8, 10, 4, 1, 9].map(give), [4, 4, 4, 5, 5, 5]);
     }
 }
 
@@ -110,10 +111,11 @@ fn any_kinds_and_words() {
     let mut rng = Rng::new(20);
     let mut tally = Tally::default();
     for _ in 0..times(50_000) {
-        let kind = if rng.once_in(8) { rng.any_length() } else { rng.within(0, 8) };
+        let kind = if rng.once_in(8) { rng.any_length() } else { rng.within(0, 10) };
         let count = COUNTS.iter().find(|row| row.0 == kind).map_or(0, |row| row.1);
         let count = if rng.once_in(4) { rng.place(12) } else { count };
-        let words: Vec<u32> = (0..count).map(|_| rng.any_length()).collect();
+        let any = |_| if rng.coin() { rng.within(0, 40) } else { rng.any_length() };
+        let words: Vec<u32> = (0..count).map(any).collect();
         let mut image = any_powered(&mut rng);
         let words = bytes_of(&words);
         tally.count(both::event(&mut image, kind, &words, &mut [0xEE; SHOWN]).number);

@@ -142,8 +142,15 @@ fn single_records_on_models_that_do_not_pass() {
 fn unreadable_records_on_models_that_do_not_pass() {
     let mut rng = Rng::new(6);
     let mut tally = Tally::default();
-    let unreadable: [&[u8]; 5] =
-        [&[2], &[2, 0x80, 0x00], &[2, 0x80, 0x80, 0x80, 0x80, 0x10], &[8], &[0]];
+    let unreadable: [&[u8]; 7] = [
+        &[2],
+        &[2, 0x80, 0x00],
+        &[2, 0x80, 0x80, 0x80, 0x80, 0x10],
+        &[9, 0x80, 0x00],
+        &[8],
+        &[10],
+        &[0],
+    ];
     for _ in 0..times(10_000) {
         let state = reference::State { ohms: 33_001, ..any_state(&mut rng) };
         let mut bytes = image::of(&Held::On(Powered::new(1, 0, state)));

@@ -1,7 +1,8 @@
 //! The header's names for the paper's numbers are the reference's numbers, and
 //! there are no others: a name that is missing, added or misnumbered fails.
 
-use reference::generate::plausible_events;
+use reference::generate::events_of;
+use reference::pins::code_of;
 use reference::state::phase;
 use reference::{edges, event, Event, Refusal, Sample, Setting};
 
@@ -60,15 +61,16 @@ fn refusals() {
 
 #[test]
 fn kinds() {
-    let of_power_on = plausible_events(1, 1).remove(0);
+    let power_on = |kind| events_of(&[[kind].as_slice(), &[0; 10]].concat()).remove(0);
     let wanted = [
-        ("POWER_ON", of_power_on),
+        ("POWER_ON", power_on(1)),
         ("SET", Event::Set { number: 1, value: 2_400 }),
         ("WRITE", Event::Write { address: 0x15, byte: 0 }),
         ("TAKE_FLAGS", Event::TakeFlags),
         ("OBSERVE", Event::Observe(Sample::at_power_on(0))),
         ("SERVICE", Event::Service),
         ("RESET", Event::Reset),
+        ("POWER_ON_RESISTORS", power_on(9)),
     ];
     are("KIND_", &wanted.map(|(name, event)| (name, event.kind().into())));
 }
@@ -134,4 +136,25 @@ fn words_of_answers() {
     let report = ["FLAGS", "STAT"];
     are("SHOWN_", &both.into_iter().chain(shown).zip(0..).collect::<Vec<_>>());
     are("REPORT_", &both.into_iter().chain(report).zip(0..).collect::<Vec<_>>());
+}
+
+/// The spans of a pin's resistor that the header lists, as `CODE LEAST-MOST`.
+fn listed_spans() -> Vec<(u32, u32, u32)> {
+    let start = HEADER.find("/* Kinds of events.").expect("the kinds' comment");
+    let comment = HEADER[start..].split("*/").next().expect("its text");
+    let rows = comment.lines().filter_map(|line| line.strip_prefix(" *     "));
+    let text: String = rows.collect::<Vec<_>>().join(" ").replace(',', "").replace('-', " ");
+    let numbers: Vec<u32> =
+        text.split_whitespace().map(|word| word.parse().expect("a number")).collect();
+    numbers.chunks(3).map(|row| (row[0], row[1], row[2])).collect()
+}
+
+#[test]
+fn spans_of_resistors() {
+    let span = |code| {
+        let mut ohms = (0..=100_000).filter(|ohms| code_of(*ohms) == code);
+        let least = ohms.next().expect("a span");
+        (code, least, ohms.next_back().expect("more than an ohm"))
+    };
+    assert_eq!(listed_spans(), (1..=7).map(span).collect::<Vec<_>>());
 }

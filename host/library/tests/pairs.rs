@@ -82,12 +82,14 @@ fn a_log_and_one_with_a_byte_changed() {
 
 /// A sixth record that can't be read, its number, and the place of what
 /// decided it, from the record's start; the last can be read, to its end.
-const SIXTH: [(&[u8], u32, u64); 6] = [
+const SIXTH: [(&[u8], u32, u64); 8] = [
     (&[2], 1, 1),
     (&[2, 1, 0x80], 1, 3),
+    (&[9], 1, 1),
     (&[2, 0x80, 0], 2, 2),
     (&[2, 0xFF, 0xFF, 0xFF, 0xFF, 0x7F, 0x80], 3, 5),
-    (&[9], 4, 0),
+    (&[8], 4, 0),
+    (&[10], 4, 0),
     (&[2, 1, 1], 0, 3),
 ];
 

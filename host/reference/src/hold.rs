@@ -1,12 +1,13 @@
 //! What events may bring and what a model may hold.
 
-use crate::event::{Profile, Sample};
+use crate::event::{Profile, Resistors, Sample};
 use crate::model::Model;
 use crate::settings::{Setting, Settings};
 use crate::state::{PerStage, Stage, State, MOST_AHEAD_MS, UNITS_PER_SECOND};
 
 const MOST_CODE: u32 = 7;
 const MOST_OHMS: u32 = 33_000;
+const MOST_RESISTOR: u32 = 100_000;
 const MOST_SECONDS: u32 = 172_800;
 const MOST_MV: u32 = 45_000;
 const MOST_TS: u32 = 100_000;
@@ -22,6 +23,13 @@ pub fn profile_in_range(profile: &Profile) -> bool {
         && profile.ohms <= MOST_OHMS
         && is_ceiling(profile.ceiling)
         && seconds.into_iter().all(is_seconds)
+}
+
+/// Whether the resistors of a power-on are in their range. Its other numbers
+/// are a profile's.
+pub fn resistors_in_range(resistors: &Resistors) -> bool {
+    let pins = [resistors.cell, resistors.vchg, resistors.ichg];
+    pins.into_iter().all(|ohms| ohms <= MOST_RESISTOR)
 }
 
 /// Whether an observation's numbers are in their ranges. Its stamp has none.

@@ -35,7 +35,7 @@ pub mod state;
 pub mod volts;
 
 pub use band::{band, Band};
-pub use event::{Event, Profile, Sample};
+pub use event::{Event, Profile, Resistors, Sample};
 pub use hold::may_hold;
 pub use model::{Model, Step};
 pub use part::{part, partlog, Parting};

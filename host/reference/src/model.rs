@@ -1,8 +1,8 @@
 //! The model and one event on it.
 
 use crate::edges::{edges, WATCHDOG_EXPIRED};
-use crate::event::{Event, Profile};
-use crate::hold::{may_hold, profile_in_range};
+use crate::event::{Event, Profile, Resistors};
+use crate::hold::{may_hold, profile_in_range, resistors_in_range};
 use crate::refusal::Refusal;
 use crate::settle::{settle, Cause};
 use crate::state::State;
@@ -70,6 +70,7 @@ impl Model {
         }
         match (event, self) {
             (Event::PowerOn(profile), _) => powered_on(profile),
+            (Event::PowerOnResistors(resistors), _) => powered_by(resistors),
             (_, Model::Off) => Err(Refusal::NotPowered),
             (_, Model::On(before)) => stepped(before, event),
         }
@@ -86,6 +87,14 @@ fn powered_on(profile: &Profile) -> Result<Accepted, Refusal> {
     settle(&mut state, Cause::Other);
     state.flags = WATCHDOG_EXPIRED;
     Ok(Accepted { state, pulse: true, handed: 0 })
+}
+
+/// "ohms above 100,000 are 5"; else "it acts as kind 1 with those codes".
+fn powered_by(resistors: &Resistors) -> Result<Accepted, Refusal> {
+    if !resistors_in_range(resistors) {
+        return Err(Refusal::OutOfRange);
+    }
+    powered_on(&resistors.profile())
 }
 
 fn stepped(before: &State, event: &Event) -> Result<Accepted, Refusal> {

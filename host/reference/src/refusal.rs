@@ -10,7 +10,7 @@ pub enum Refusal {
     NotShortest = 2,
     /// Five groups all have the high bit, or the value is above 4,294,967,295.
     TooLarge = 3,
-    /// The kind is not 1-7.
+    /// The kind is not 1-7 or 9.
     UnknownKind = 4,
     /// A number is outside its range, or a handed-in model's field is.
     OutOfRange = 5,

@@ -267,7 +267,7 @@ impl State {
     /// What an event other than a power-on does before settling.
     pub(crate) fn apply(&mut self, event: &Event) -> Result<(), Refusal> {
         match event {
-            Event::PowerOn(_) | Event::TakeFlags => {}
+            Event::PowerOn(_) | Event::PowerOnResistors(_) | Event::TakeFlags => {}
             Event::Set { number, value } => self.set(*number, *value)?,
             Event::Write { address, byte } => registers::write(self, *address, *byte)?,
             Event::Observe(sample) => self.observe(sample)?,

@@ -5,7 +5,7 @@ use reference::number;
 use reference::state::phase;
 use reference::{
     band, partlog, read_register, record, report, runlog, Band, Event, Model, Profile, Reading,
-    Refusal, Refused, Sample, Setting, State,
+    Refusal, Refused, Resistors, Sample, Setting, State,
 };
 
 const EXAMPLE: [u8; 28] = [
@@ -66,6 +66,18 @@ fn the_example_log() {
     assert_eq!(runlog(&EXAMPLE), wanted);
     let events = [Event::PowerOn(profile()), Event::Observe(sample())];
     assert_eq!(events.iter().flat_map(record::encode).collect::<Vec<u8>>(), EXAMPLE);
+}
+
+/// The example's power-on by its resistors.
+#[test]
+fn the_example_log_by_resistors() {
+    let Profile { ohms, stamp, ceiling, trickle, precharge, fast, watchdog, .. } = profile();
+    let (cell, vchg, ichg) = (6_040, 13_700, 10_500);
+    let resistors =
+        Resistors { cell, vchg, ichg, ohms, stamp, ceiling, trickle, precharge, fast, watchdog };
+    let record = record::encode(&Event::PowerOnResistors(resistors));
+    let wanted = "1 9 0 0 0 0 3300 1 32\n2 5 0 3 1500 8400 3300 1 97\nend 2 0 31\n";
+    assert_eq!(runlog(&[&record, &EXAMPLE[16..]].concat()), wanted);
 }
 
 #[test]
@@ -176,7 +188,7 @@ fn small_spellings() {
 /// two-log answer; "Refusals 4 and 14 keep the record's start".
 #[test]
 fn the_byte_that_decided_it() {
-    let rows: [(&[u8], u32, usize); 7] = [
+    let rows: [(&[u8], u32, usize); 9] = [
         (&[5], 1, 29),
         (&[5, 0xE8, 0x07, 0xE0], 1, 32),
         (&[2, 0x81, 0x80, 0x00, 7], 2, 31),
@@ -184,6 +196,8 @@ fn the_byte_that_decided_it() {
         (&[2, 9, 0x80, 0x80, 0x80, 0x80, 0x10, 7], 3, 34),
         (&[2, 0xFF, 0xFF, 0xFF, 0xFF, 0xFF], 3, 33),
         (&[8, 0x80, 0x00], 4, 28),
+        (&[9, 0x80, 0x00], 2, 30),
+        (&[10, 0x80, 0x00], 4, 28),
     ];
     let longer = [EXAMPLE.as_slice(), &[7; 20]].concat();
     for (end, code, place) in rows {

@@ -162,7 +162,7 @@ impl Seen {
         self.phases.insert(report(&step.model).phase);
         self.moves.insert((report(before).phase, report(&step.model).phase));
         if let (Model::On(old), Model::On(new)) = (before, &step.model) {
-            let powered = matches!(event, Event::PowerOn(_));
+            let powered = event.profile().is_some();
             self.flags |= if powered { 0 } else { new.flags & !old.flags };
             self.wrapped |= !powered && new.sample.stamp < old.sample.stamp;
         }
@@ -194,6 +194,8 @@ fn plausible_logs_reach_every_part_of_the_model() {
         (6, false),
         (7, true),
         (7, false),
+        (9, true),
+        (9, false),
     ]);
     assert_eq!(seen.kinds, possible);
     let charge = [(0, 1), (1, 2), (2, 3), (3, 4), (4, 5), (5, 3), (4, 6), (6, 5), (3, 7), (7, 0)];

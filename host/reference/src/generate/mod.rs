@@ -6,6 +6,8 @@
 //! * [`damaged_log`]: a plausible log with bytes changed, cut or put in, or a
 //!   number misspelled.
 //! * [`log_pair`]: two logs that share a start.
+//! * [`any_event`], [`any_resistors`]: single events, in their ranges and out
+//!   of them.
 //! * [`any_state`], [`spoiled_state`]: models handed in from outside.
 
 use crate::event::Event;
@@ -19,15 +21,17 @@ mod rng;
 mod states;
 mod walk;
 
-pub use records::any_event;
+pub use records::{any_event, any_resistors};
 pub use rng::Rng;
 pub use states::{any_state, spoiled_state};
 
 use damage::damage;
+use records::power_on;
 use walk::Walk;
 
 const MOST_MV: u32 = 45_000;
 const MOST_TS: u32 = 100_000;
+const MOST_RESISTOR: u32 = 100_000;
 
 /// How many rounds to run: `rounds`, times CHEUKDANE_TIMES for longer runs.
 pub fn times(rounds: u64) -> u64 {
@@ -67,14 +71,14 @@ pub fn damaged_log(seed: u64, records: usize) -> Vec<u8> {
     log
 }
 
-/// Two logs: equal, one the other's start, one damaged, or parting at some
-/// record.
+/// Two logs: equal, one the other's start, one damaged, one with its power-ons
+/// said otherwise, or parting at some record.
 pub fn log_pair(seed: u64, records: usize) -> (Vec<u8>, Vec<u8>) {
     let mut rng = Rng::new(seed ^ 0x5EED_50F2_7065_A175);
     let events = plausible_events(seed, records);
     let whole = spelled(&events);
     let shared = rng.place(events.len() + 1);
-    let other = match rng.within(0, 5) {
+    let other = match rng.within(0, 6) {
         0 => whole.clone(),
         1 => spelled(&events[..shared]),
         2 => whole[..rng.place(whole.len() + 1)].to_vec(),
@@ -84,6 +88,7 @@ pub fn log_pair(seed: u64, records: usize) -> (Vec<u8>, Vec<u8>) {
             damaged
         }
         4 => [spelled(&events[..shared]), any_log(rng.bits(), 3)].concat(),
+        5 => spelled(&said_otherwise(&mut rng, &events)),
         _ => [whole.clone(), vec![rng.any() as u8; rng.place(6)]].concat(),
     };
     if rng.coin() {
@@ -91,6 +96,12 @@ pub fn log_pair(seed: u64, records: usize) -> (Vec<u8>, Vec<u8>) {
     } else {
         (other, whole)
     }
+}
+
+/// The events, with power-ons that bring the same profiles in place of theirs.
+fn said_otherwise(rng: &mut Rng, events: &[Event]) -> Vec<Event> {
+    let other = |event: &Event| event.profile().map_or(*event, |profile| power_on(rng, profile));
+    events.iter().map(other).collect()
 }
 
 /// The records of `events`, one after another.

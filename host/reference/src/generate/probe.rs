@@ -1,7 +1,7 @@
 //! Episodes of a run that take one comparator, or one rule, to its points.
 
 use super::aim::share_of;
-use super::records::{edge_of_profile, edge_of_sample};
+use super::records::{edge_of_profile, edge_of_sample, power_on, soldered, span};
 use super::walk::Walk;
 use super::MOST_MV;
 use crate::event::{Event, Profile, Sample, HIZ_PIN, SHUTDOWN};
@@ -222,7 +222,8 @@ impl Walk {
     pub(super) fn probe_pin_fault(&mut self, profile: Profile) {
         let by_voltage = self.rng.coin();
         let (vchg, ichg) = if by_voltage { (0, profile.ichg) } else { (profile.vchg, 0) };
-        self.give(Event::PowerOn(Profile { vchg, ichg, ..profile }));
+        let fault = power_on(&mut self.rng, Profile { vchg, ichg, ..profile });
+        self.give(fault);
         let (address, bit) = if by_voltage { (0x1B, 0x80) } else { (0x1C, 0x08) };
         self.write_to(address, bit);
         self.set_to(Setting::Vreg, CellMv(3_600).times(profile.cell.max(1)).0);
@@ -243,12 +244,32 @@ impl Walk {
         self.set_to(Setting::EnChg, 1);
     }
 
+    /// Power-ons that differ in one pin's resistor: from just below a code's
+    /// span to just above it, each with a charge that is seen.
+    pub(super) fn probe_resistor(&mut self, profile: Profile) {
+        let mut resistors = soldered(&mut self.rng, &profile);
+        let pin = self.rng.within(0, 2);
+        let (least, most) = span(self.rng.within(1, 7));
+        for ohms in [least - 1, least, most, most + 1] {
+            match pin {
+                0 => resistors.cell = ohms,
+                1 => resistors.vchg = ohms,
+                _ => resistors.ichg = ohms,
+            }
+            self.give(Event::PowerOnResistors(resistors));
+            self.see(|sample, state| {
+                (sample.vin, sample.vbat) = (5_000, share_of(base_voltage(state), 900));
+            });
+        }
+    }
+
     /// Numbers at the ends of their ranges, and just outside.
     pub(super) fn probe_ranges(&mut self) {
         for _ in 0..self.rng.within(1, 4) {
             let Some(state) = self.state() else { return };
             let event = if self.rng.coin() {
-                Event::PowerOn(edge_of_profile(&mut self.rng))
+                let profile = edge_of_profile(&mut self.rng);
+                power_on(&mut self.rng, profile)
             } else {
                 Event::Observe(edge_of_sample(&mut self.rng, state.sample))
             };

@@ -1,19 +1,21 @@
 //! Records of any numbers, in their ranges and out of them.
 
 use super::rng::Rng;
-use super::{MOST_MV, MOST_TS};
-use crate::event::{Event, Profile, Sample};
+use super::{MOST_MV, MOST_RESISTOR, MOST_TS};
+use crate::event::{Event, Profile, Resistors, Sample};
+use crate::pins::{code_of, RESISTORS};
 use crate::state::MOST_AHEAD_MS;
 
 /// Any event at all: ranges are often kept, and often not.
 pub fn any_event(rng: &mut Rng) -> Event {
-    match rng.within(1, 9) {
+    match rng.within(1, 10) {
         1 => Event::PowerOn(any_profile(rng)),
         2 => Event::Set { number: small_or_any(rng, 15), value: any_value(rng) },
         3 => Event::Write { address: any_address(rng), byte: small_or_any(rng, 256) },
         4 => Event::TakeFlags,
         5 => Event::Service,
         6 => Event::Reset,
+        7 => Event::PowerOnResistors(any_resistors(rng)),
         _ => Event::Observe(any_sample(rng)),
     }
 }
@@ -65,6 +67,66 @@ fn spoil_profile(rng: &mut Rng, profile: &mut Profile, odd: u32) {
         8 => profile.fast = rng.pick(&[172_801, odd]),
         _ => profile.watchdog = rng.pick(&[172_801, odd]),
     }
+}
+
+/// The numbers of any power-on by resistors.
+pub fn any_resistors(rng: &mut Rng) -> Resistors {
+    let profile = any_profile(rng);
+    soldered(rng, &profile)
+}
+
+/// A power-on that brings a profile, by its codes or by resistors.
+pub(super) fn power_on(rng: &mut Rng, profile: Profile) -> Event {
+    if rng.coin() {
+        Event::PowerOn(profile)
+    } else {
+        Event::PowerOnResistors(soldered(rng, &profile))
+    }
+}
+
+/// Resistors that stand for a profile's codes, beside its other numbers.
+pub(super) fn soldered(rng: &mut Rng, profile: &Profile) -> Resistors {
+    Resistors {
+        cell: resistor(rng, profile.cell),
+        vchg: resistor(rng, profile.vchg),
+        ichg: resistor(rng, profile.ichg),
+        ohms: profile.ohms,
+        stamp: profile.stamp,
+        ceiling: profile.ceiling,
+        trickle: profile.trickle,
+        precharge: profile.precharge,
+        fast: profile.fast,
+        watchdog: profile.watchdog,
+    }
+}
+
+/// Ohms that stand for a code; outside their range for what is no code.
+fn resistor(rng: &mut Rng, code: u32) -> u32 {
+    match code {
+        0 => unmatched(rng),
+        1..=7 => {
+            let (least, most) = span(code);
+            let inside = rng.within(least, most);
+            rng.pick(&[RESISTORS[code as usize - 1], least, most, inside])
+        }
+        _ => rng.pick(&[MOST_RESISTOR + 1, code.max(MOST_RESISTOR + 1), u32::MAX]),
+    }
+}
+
+/// Ohms that stand for no code: beside a span, or far from all of them.
+fn unmatched(rng: &mut Rng) -> u32 {
+    let code = rng.within(1, 7);
+    let (least, most) = span(code);
+    let free = rng.within(0, MOST_RESISTOR);
+    let far = if code_of(free) == 0 { free } else { MOST_RESISTOR };
+    rng.pick(&[least - 1, least - 1, most + 1, most + 1, 0, 1, code, MOST_RESISTOR, far])
+}
+
+/// The least and the most ohms that stand for a code, 1 to 7: 2% either way,
+/// floored.
+pub(super) fn span(code: u32) -> (u32, u32) {
+    let resistor = RESISTORS[code as usize - 1];
+    (resistor - resistor / 50, resistor + resistor / 50)
 }
 
 /// A good profile with one number at an end of its range or just outside.

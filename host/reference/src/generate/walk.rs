@@ -1,7 +1,7 @@
 //! A plausible run, made event by event.
 
 use super::aim::{around, gap, threshold_of_ts, threshold_of_vbat, threshold_of_vin};
-use super::records::{any_event, any_profile, good_profile};
+use super::records::{any_event, any_profile, good_profile, power_on};
 use super::rng::Rng;
 use super::MOST_MV;
 use crate::event::{Event, Sample};
@@ -39,7 +39,8 @@ impl Walk {
         if self.rng.once_in(10) {
             profile = any_profile(&mut self.rng);
         }
-        self.give(Event::PowerOn(profile));
+        let event = power_on(&mut self.rng, profile);
+        self.give(event);
     }
 
     /// Some more events.
@@ -59,7 +60,8 @@ impl Walk {
             91..=92 => self.change_cells(),
             93 => self.power_on(),
             94 => self.fault_a_pin(),
-            95..=97 => self.probe_ranges(),
+            95..=96 => self.probe_ranges(),
+            97 => self.solder_a_pin(),
             98 => self.odd_event(),
             _ => self.end_a_fault(),
         }
@@ -68,6 +70,11 @@ impl Walk {
     fn fault_a_pin(&mut self) {
         let profile = good_profile(&mut self.rng);
         self.probe_pin_fault(profile);
+    }
+
+    fn solder_a_pin(&mut self) {
+        let profile = good_profile(&mut self.rng);
+        self.probe_resistor(profile);
     }
 
     fn odd_event(&mut self) {

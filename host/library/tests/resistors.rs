@@ -1,0 +1,227 @@
+//! Power-ons by their resistors, kind 9: in every call they leave and show what
+//! power-ons by codes do; what is refused changes no byte; and their records
+//! are compared as they are.
+
+use library::both;
+use library::image::{self, Held, Powered};
+use library::layout::{bytes_of, FORMAT, IMAGE, PROFILE, SHOWN, WORD};
+use library::tally::Tally;
+use reference::generate::{any_resistors, any_state, spoiled_state, times, Rng};
+use reference::pins::{code_of, RESISTORS};
+use reference::record::numbers_of;
+use reference::{number, Event};
+
+const BY_CODES: u32 = 1;
+const BY_RESISTORS: u32 = 9;
+/// The most ohms of a pin's resistor.
+const MOST: u32 = 100_000;
+
+/// Kind 9's numbers, each in its range, and kind 1's for the same.
+const NUMBERS: [u32; 10] = [6_040, 13_700, 10_500, 3_333, 77, 4_500, 3_600, 7_200, 36_000, 160];
+const WITH_CODES: [u32; 10] = [2, 5, 4, 3_333, 77, 4_500, 3_600, 7_200, 36_000, 160];
+
+fn with(mut numbers: [u32; 10], index: usize, value: u32) -> [u32; 10] {
+    numbers[index] = value;
+    numbers
+}
+
+/// What an event leaves: its answer, the image, and what it shows.
+type Left = (u32, Vec<u8>, [u8; SHOWN]);
+
+fn given(image: &[u8], kind: u32, numbers: &[u32]) -> Left {
+    let (mut image, mut shown) = (image.to_vec(), [0xEE; SHOWN]);
+    let answer = both::event(&mut image, kind, &bytes_of(numbers), &mut shown);
+    (answer.number, image, shown)
+}
+
+/// The same by its record, which is written and played.
+fn played(image: &[u8], kind: u32, numbers: &[u32]) -> Left {
+    let (mut image, mut shown) = (image.to_vec(), [0xEE; SHOWN]);
+    let record = written(kind, numbers);
+    let answer = both::play(&mut image, &record, 0, &mut shown);
+    assert_eq!((answer.kind, answer.next), (kind, record.len() as u64));
+    (answer.number, image, shown)
+}
+
+fn written(kind: u32, numbers: &[u32]) -> Vec<u8> {
+    let mut out = vec![0xEE; 60];
+    let answer = both::write(kind, &bytes_of(numbers), &mut out);
+    assert_eq!(answer.number, 0);
+    out.truncate(answer.count as usize);
+    out
+}
+
+fn replayed(image: &[u8], kind: u32, numbers: &[u32]) -> Vec<u8> {
+    let mut image = image.to_vec();
+    let answer = both::replay(&mut image, &written(kind, numbers), 0);
+    assert_eq!((answer.number, answer.code, answer.records), (0, 0, 1));
+    image
+}
+
+/// Each of the three pins' resistors over all ohms, from none to one too many.
+#[test]
+fn every_ohm_of_every_pin() {
+    let off = [0; IMAGE];
+    for pin in 0..3 {
+        let by_codes: Vec<Left> =
+            (0..8).map(|code| given(&off, BY_CODES, &with(WITH_CODES, pin, code))).collect();
+        for ohms in 0..=MOST {
+            let left = given(&off, BY_RESISTORS, &with(NUMBERS, pin, ohms));
+            assert_eq!(left, by_codes[code_of(ohms) as usize], "pin {pin}, {ohms} ohms");
+        }
+        assert_eq!(given(&off, BY_RESISTORS, &with(NUMBERS, pin, MOST + 1)).0, 5);
+    }
+}
+
+/// The image of a model that is on and passes, is on and doesn't, or is off.
+fn any_image(rng: &mut Rng) -> Vec<u8> {
+    let state = if rng.once_in(6) { spoiled_state(rng) } else { any_state(rng) };
+    let on = image::of(&Held::On(Powered::new(rng.within(0, 7), rng.any(), state)));
+    if rng.once_in(6) || image::read(&on).is_none() {
+        return vec![0; IMAGE];
+    }
+    on
+}
+
+/// On any model, given, played and replayed: as kind 1 with the codes. What is
+/// refused leaves image and answer buffer.
+#[test]
+fn as_kind_1_on_any_model() {
+    let mut rng = Rng::new(26);
+    let mut tally = Tally::default();
+    for _ in 0..times(30_000) {
+        let image = any_image(&mut rng);
+        let event = Event::PowerOnResistors(any_resistors(&mut rng));
+        let numbers = numbers_of(&event);
+        let left = given(&image, BY_RESISTORS, &numbers);
+        assert_eq!(left, played(&image, BY_RESISTORS, &numbers));
+        assert_eq!(left.1, replayed(&image, BY_RESISTORS, &numbers));
+        let codes = numbers[..3].iter().map(|ohms| if *ohms > MOST { 8 } else { code_of(*ohms) });
+        let with_codes: Vec<u32> = codes.chain(numbers[3..].iter().copied()).collect();
+        assert_eq!(left, given(&image, BY_CODES, &with_codes));
+        if left.0 != 0 {
+            assert_eq!((left.1, left.2), (image, [0xEE; SHOWN]));
+        }
+        tally.count(left.0);
+    }
+    tally.met_exactly([0, 5]);
+}
+
+/// A number of each that is one too many, or too few.
+const REFUSED: [(usize, u32); 15] = [
+    (0, MOST + 1),
+    (0, u32::MAX),
+    (1, MOST + 1),
+    (1, u32::MAX),
+    (2, MOST + 1),
+    (2, u32::MAX),
+    (3, 33_001),
+    (3, MOST),
+    (5, 4_349),
+    (5, 4_715),
+    (6, 172_801),
+    (7, 172_801),
+    (8, 172_801),
+    (9, 172_801),
+    (9, u32::MAX),
+];
+
+/// A refused one leaves a model that is off, or on, as it was.
+#[test]
+fn a_refused_one_changes_no_byte() {
+    let off = vec![0; IMAGE];
+    let on = given(&off, BY_RESISTORS, &NUMBERS).1;
+    for image in [off, on] {
+        for (index, value) in REFUSED {
+            let numbers = with(NUMBERS, index, value);
+            let wanted = (5, image.clone(), [0xEE; SHOWN]);
+            assert_eq!(given(&image, BY_RESISTORS, &numbers), wanted);
+            assert_eq!(played(&image, BY_RESISTORS, &numbers), wanted);
+            assert_eq!(replayed(&image, BY_RESISTORS, &numbers), image);
+        }
+    }
+}
+
+/// 6 is for other kinds than a power-on's, and a refused power-on is none.
+#[test]
+fn it_ends_6() {
+    let service = |image: &[u8]| given(image, 6, &[]).0;
+    let refused = given(&[0; IMAGE], BY_RESISTORS, &with(NUMBERS, 0, MOST + 1));
+    assert_eq!((refused.0, service(&refused.1)), (5, 6));
+    let taken = given(&[0; IMAGE], BY_RESISTORS, &NUMBERS);
+    assert_eq!((taken.0, service(&taken.1)), (0, 0));
+}
+
+/// The image has the codes where kind 1's numbers stand, and no ohms.
+#[test]
+fn the_image_has_the_codes() {
+    let image = given(&[0; IMAGE], BY_RESISTORS, &NUMBERS).1;
+    assert_eq!(image[PROFILE * WORD..][..10 * WORD], bytes_of(&WITH_CODES));
+}
+
+/// "An image of another format, an older one too, is 5", also to a power-on.
+#[test]
+fn an_older_image_is_5() {
+    let on = given(&[0; IMAGE], BY_RESISTORS, &NUMBERS).1;
+    for format in 1..FORMAT {
+        let older = [&format.to_le_bytes(), &on[WORD..]].concat();
+        for (kind, numbers) in [(BY_CODES, WITH_CODES), (BY_RESISTORS, NUMBERS)] {
+            assert_eq!(given(&older, kind, &numbers), (5, older.clone(), [0xEE; SHOWN]));
+        }
+        let answer = both::replay(&mut older.clone(), &written(BY_RESISTORS, &NUMBERS), 0);
+        assert_eq!((answer.number, answer.records), (5, 0));
+    }
+}
+
+/// Power-ons that lead to one model, by codes and by any resistors of a span,
+/// are other records.
+#[test]
+fn logs_are_compared_as_they_are() {
+    let mut logs = vec![written(BY_CODES, &WITH_CODES), written(BY_CODES, &NUMBERS)];
+    logs.extend((0..3).map(|pin| written(BY_RESISTORS, &with(NUMBERS, pin, NUMBERS[pin] + 1))));
+    logs.push(written(BY_RESISTORS, &NUMBERS));
+    for (at, first) in logs.iter().enumerate() {
+        for (index, second) in logs.iter().enumerate() {
+            let answer = both::compare(&[&[6], &first[..]].concat(), &[&[6], &second[..]].concat());
+            let wanted = if at == index { (0, 0) } else { (14, 2) };
+            assert_eq!((answer.number, answer.record), wanted);
+        }
+    }
+}
+
+/// Each number misspelled, in a record that is played, replayed and compared.
+#[test]
+fn numbers_that_cannot_be_read() {
+    let misspelled: [(&[u8], u32, usize); 4] = [
+        (&[], 1, 0),
+        (&[0x80], 1, 1),
+        (&[0x80, 0x00, 0x00], 2, 1),
+        (&[0xFF, 0xFF, 0xFF, 0xFF, 0x10], 3, 4),
+    ];
+    for count in 0..10 {
+        let mut start = vec![6, BY_RESISTORS as u8];
+        NUMBERS[..count].iter().for_each(|value| number::append(*value, &mut start));
+        for (end, wanted, place) in misspelled {
+            let log = [&start[..], end].concat();
+            let decided = (start.len() + place) as u64;
+            let answer = both::play(&mut [0; IMAGE], &log, 1, &mut [0xEE; SHOWN]);
+            assert_eq!((answer.number, answer.place, answer.next), (wanted, decided, 1));
+            let answer = both::replay(&mut [0; IMAGE], &log, 0);
+            assert_eq!((answer.code, answer.place, answer.next), (wanted, decided, 1));
+            let answer = both::compare(&[6, 6], &log);
+            assert_eq!((answer.number, answer.record, answer.place), (wanted, 2, decided));
+        }
+    }
+}
+
+/// Resistors of the maker's table, each at all three pins.
+#[test]
+fn the_makers_resistors() {
+    for (code, ohms) in (1..).zip(RESISTORS) {
+        let (mut resistors, mut codes) = (NUMBERS, WITH_CODES);
+        resistors[..3].fill(ohms);
+        codes[..3].fill(code);
+        let by_codes = given(&[0; IMAGE], BY_CODES, &codes);
+        assert_eq!(given(&[0; IMAGE], BY_RESISTORS, &resistors), by_codes);
+    }
+}

@@ -1,0 +1,257 @@
+//! A power-on by its resistors, kind 9: the spans of the pin table, that it
+//! acts as kind 1 with the codes, its refusals, and what the generators reach
+//! of it.
+
+use std::collections::BTreeSet;
+
+use reference::generate::{
+    any_event, any_resistors, any_state, plausible_events, spelled, spoiled_state, times, Rng,
+};
+use reference::pins::{code_of, matches, RESISTORS};
+use reference::{
+    number, partlog, record, runlog, statelog, Event, Model, Profile, Reading, Refusal, Resistors,
+    Step,
+};
+
+/// The spans of codes 1 to 7, worked out by hand from "within 2%".
+const SPANS: [(u32, u32); 7] = [
+    (4_548, 4_732),
+    (5_920, 6_160),
+    (8_085, 8_415),
+    (10_290, 10_710),
+    (13_426, 13_974),
+    (16_562, 17_238),
+    (26_852, 27_948),
+];
+const MOST: u32 = 100_000;
+
+/// Kind 9's numbers, each in its range.
+const NUMBERS: [u32; 10] = [6_040, 13_700, 10_500, 0, 0, 4_500, 3_600, 7_200, 36_000, 0];
+
+/// The code in whose span ohms lie, by the list above.
+fn listed(ohms: u32) -> u32 {
+    let found = (1..).zip(SPANS).find(|(_, (least, most))| (*least..=*most).contains(&ohms));
+    found.map_or(0, |(code, _)| code)
+}
+
+#[test]
+fn the_spans_are_those_of_the_list() {
+    for ohms in 0..=MOST {
+        assert_eq!(code_of(ohms), listed(ohms), "{ohms}");
+    }
+    for (code, (least, most)) in (1..).zip(SPANS) {
+        assert_eq!([least - 1, least, most, most + 1].map(code_of), [0, code, code, 0]);
+        assert_eq!(code_of(RESISTORS[code as usize - 1]), code);
+    }
+}
+
+#[test]
+fn no_two_spans_overlap() {
+    for ohms in 0..=MOST {
+        let codes = RESISTORS.into_iter().filter(|resistor| matches(ohms, *resistor)).count();
+        assert!(codes <= 1, "{ohms}");
+    }
+}
+
+/// Also where a hundredfold difference is small again in 32 bits.
+#[test]
+fn ohms_above_the_range_match_none() {
+    for resistor in RESISTORS {
+        for turn in 1..100u64 {
+            let far = (turn << 32).div_ceil(100) as u32;
+            assert_eq!([far, far + resistor].map(code_of), [0, 0], "{far}");
+        }
+    }
+    assert_eq!(code_of(u32::MAX), 0);
+}
+
+fn pins(resistors: &Resistors) -> [u32; 3] {
+    [resistors.cell, resistors.vchg, resistors.ichg]
+}
+
+fn in_range(resistors: &Resistors) -> bool {
+    pins(resistors).iter().all(|ohms| *ohms <= MOST)
+}
+
+/// Kind 1 with the listed codes and the other numbers.
+fn by_codes(resistors: &Resistors) -> Event {
+    let [cell, vchg, ichg] = pins(resistors).map(listed);
+    let Resistors { ohms, stamp, ceiling, trickle, precharge, fast, watchdog, .. } = *resistors;
+    Event::PowerOn(Profile {
+        cell,
+        vchg,
+        ichg,
+        ohms,
+        stamp,
+        ceiling,
+        trickle,
+        precharge,
+        fast,
+        watchdog,
+    })
+}
+
+/// What kind 9 owes on a model: "ohms above 100,000 are 5", else what kind 1
+/// does.
+fn owed(model: &Model, resistors: &Resistors) -> Step {
+    if in_range(resistors) {
+        return model.step(&by_codes(resistors));
+    }
+    let refusal = Some(Refusal::OutOfRange);
+    Step { refusal, place: 0, model: *model, pulse: false, handed: 0 }
+}
+
+#[test]
+fn it_acts_as_kind_1_with_the_codes() {
+    let mut rng = Rng::new(31);
+    for _ in 0..times(20_000) {
+        let resistors = any_resistors(&mut rng);
+        let (held, spoiled) = (any_state(&mut rng), spoiled_state(&mut rng));
+        for model in [Model::Off, Model::On(held), Model::On(spoiled)] {
+            let step = model.step(&Event::PowerOnResistors(resistors));
+            assert_eq!(step, owed(&model, &resistors), "{resistors:?} on {model:?}");
+        }
+    }
+}
+
+/// The lines of a log without their kinds, and without the last.
+fn lines(log: &[u8]) -> Vec<String> {
+    let mut lines: Vec<String> = runlog(log).lines().map(without_kind).collect();
+    lines.pop();
+    lines
+}
+
+fn without_kind(line: &str) -> String {
+    let words: Vec<&str> = line.split(' ').collect();
+    [&words[..1], &words[2..]].concat().join(" ")
+}
+
+#[test]
+fn runs_are_those_of_kind_1() {
+    for seed in 0..times(500) {
+        let events = plausible_events(seed, 60);
+        let by_codes: Vec<Event> = events
+            .iter()
+            .map(|event| match event {
+                Event::PowerOnResistors(resistors) if in_range(resistors) => by_codes(resistors),
+                _ => *event,
+            })
+            .collect();
+        let (log, other) = (spelled(&events), spelled(&by_codes));
+        assert_eq!(lines(&log), lines(&other));
+        assert_eq!(statelog(&log), statelog(&other));
+    }
+}
+
+/// Logs are compared as they are, though the models are equal.
+#[test]
+fn power_ons_that_are_said_otherwise_part() {
+    let mut others = NUMBERS;
+    others[0] += 1;
+    let [one, other] = [NUMBERS, others].map(|numbers| of_numbers(&numbers));
+    let by_codes = Event::PowerOn(one.profile().expect("a power-on"));
+    let logs = [one, other, by_codes].map(|event| spelled(&[Event::Service, event]));
+    for (at, first) in logs.iter().enumerate() {
+        assert_eq!(statelog(first), statelog(&logs[0]));
+        for second in &logs[at + 1..] {
+            assert_eq!(partlog(first, second), "refused 14 2 1\n");
+        }
+    }
+}
+
+/// The event that kind 9's numbers spell, in the log's order.
+fn of_numbers(numbers: &[u32]) -> Event {
+    let mut bytes = vec![9];
+    numbers.iter().for_each(|value| number::append(*value, &mut bytes));
+    let Reading::Record { event, next } = record::read(&bytes, 0) else {
+        panic!("{numbers:?} can't be read");
+    };
+    assert_eq!((next, record::encode(&event)), (bytes.len(), bytes));
+    event
+}
+
+/// Values of each number that are taken, and such as are 5.
+const RANGES: [(&[u32], &[u32]); 10] = [
+    (&[0, 1, 33_001, MOST], &[MOST + 1, u32::MAX]),
+    (&[0, 1, 33_001, MOST], &[MOST + 1, u32::MAX]),
+    (&[0, 1, 33_001, MOST], &[MOST + 1, u32::MAX]),
+    (&[0, 33_000], &[33_001, MOST, u32::MAX]),
+    (&[0, u32::MAX], &[]),
+    (&[4_350, 4_714], &[0, 4_349, 4_715, u32::MAX]),
+    (&[0, 172_800], &[172_801, u32::MAX]),
+    (&[0, 172_800], &[172_801, u32::MAX]),
+    (&[0, 172_800], &[172_801, u32::MAX]),
+    (&[0, 172_800], &[172_801, u32::MAX]),
+];
+
+#[test]
+fn each_number_has_its_range() {
+    let on = Model::Off.step(&of_numbers(&NUMBERS)).model;
+    let with = |index: usize, value: u32| {
+        let mut numbers = NUMBERS;
+        numbers[index] = value;
+        of_numbers(&numbers)
+    };
+    for (index, (taken, refused)) in RANGES.into_iter().enumerate() {
+        for model in [Model::Off, on] {
+            for value in taken {
+                assert_eq!(model.step(&with(index, *value)).refusal, None, "{index} {value}");
+            }
+            for value in refused {
+                let step = model.step_at(&with(index, *value), 7);
+                assert_eq!((step.refusal, step.place), (Some(Refusal::OutOfRange), 7));
+                assert_eq!(step.model, model);
+            }
+        }
+    }
+}
+
+/// "any kind but a power-on's, before a power-on" is 6; a refused power-on is
+/// none.
+#[test]
+fn it_is_a_power_on() {
+    let mut rng = Rng::new(32);
+    let refused = of_numbers(&[[MOST + 1].as_slice(), &NUMBERS[1..]].concat());
+    let off = Model::Off.step(&refused).model;
+    let on = Model::Off.step(&of_numbers(&NUMBERS)).model;
+    for _ in 0..times(20_000) {
+        let event = any_event(&mut rng);
+        let not_powered = Some(Refusal::NotPowered);
+        let powers = matches!(event.kind(), 1 | 9);
+        assert_eq!(off.step(&event).refusal == not_powered, !powers, "{event:?}");
+        assert_ne!(on.step(&event).refusal, not_powered);
+    }
+}
+
+/// Whether a power-on came before, the pin, and its ohms.
+type Met = (bool, usize, u32);
+
+/// What is met of kind 9 in a run.
+fn met(events: &[Event]) -> Vec<Met> {
+    let mut model = Model::Off;
+    let mut found = Vec::new();
+    for event in events {
+        if let Event::PowerOnResistors(resistors) = event {
+            let later = model != Model::Off;
+            found.extend((0..).zip(pins(resistors)).map(|(pin, ohms)| (later, pin, ohms)));
+        }
+        model = model.step(event).model;
+    }
+    found
+}
+
+/// At each pin, first and later: the maker's resistors, each end of each span
+/// and beside it, the ends of the range and beside it.
+#[test]
+fn plausible_logs_reach_every_point_of_every_pin() {
+    let spans = SPANS.iter().flat_map(|(least, most)| [least - 1, *least, *most, most + 1]);
+    let points: Vec<u32> = spans.chain(RESISTORS).chain([0, 1, MOST, MOST + 1, u32::MAX]).collect();
+    let places = [false, true].into_iter().flat_map(|later| (0..3).map(move |pin| (later, pin)));
+    let wanted: BTreeSet<Met> = places
+        .flat_map(|(later, pin)| points.iter().map(move |ohms| (later, pin, *ohms)))
+        .collect();
+    let reached: BTreeSet<Met> =
+        (0..times(20_000)).flat_map(|seed| met(&plausible_events(seed, 24))).collect();
+    let missing: Vec<&Met> = wanted.difference(&reached).collect();
+    assert!(missing.is_empty(), "{missing:?}");
+}
