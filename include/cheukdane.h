@@ -27,9 +27,9 @@
  * Stack, in bytes along the deepest chain of calls, of the module's object code for aarch64 (`make bench` prints them
  * for the machine at hand). No call calls itself.
  *
- *     play   2,256    event    2,224    replay 2,160
+ *     play   2,288    event    2,256    replay 2,192
  *     report   816    register   608
- *     compare  480    write      160
+ *     compare  464    write      176
  *     off      192    rules        0
  */
 #ifndef CHEUKDANE_H

@@ -44,7 +44,7 @@ unfolding turnOf
 opens _ _ (coded p) = by-test (profileInRange (byCodes p)) (Opens p) p (inl refl)
 opens _ _ (soldered p cell vchg ichg a b c) =
     let r = byResistors cell vchg ichg p in
-    let is : Opens (heldProfile (codedOf r)) ≡ Opens p = rw (stands-for a, stands-for b, stands-for c) in
+    let is : Opens (heldProfile (codedOf r)) ≡ Opens p = simp (stands-for a, stands-for b, stands-for c) in
     by-test (resistorsInRange r) (opensWith (codedOf r)) p (by-test (profileInRange (codedOf r)) (Opens (heldProfile (codedOf r))) p (inl is))
 
 -- ---- no other event opens a run
