@@ -7,8 +7,12 @@ use mathlib.Core.Logic.{_↔_}
 use native.Mathlib.Omega.{arith}
 use native.Mathlib.Decide.{decLt}
 use lib.ListN.{length}
-use Rattle.step_pins.specs.Codes.{matches, codeFrom}
+use Rattle.step_pins.specs.Codes.{matches, lowestBy}
 use Rattle.step_pins.specs.Theorems.{Matches, LowestTaken}
+
+-- a table's code, counted from one on
+abbrev codeFrom : ℕ → List ℕ → ℕ → ℕ
+codeFrom first t ohms = lowestBy matches first t ohms
 
 -- entry i matches, and no earlier one
 abbrev First : List ℕ → ℕ → ℕ → Type 0

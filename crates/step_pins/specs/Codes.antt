@@ -17,13 +17,13 @@ distance a b = (a - b) + (b - a)
 abbrev pub matches : ℕ → ℕ → Bool
 matches nominal ohms = leb (100 * distance ohms nominal) (2 * nominal)
 
--- "the lower code taken": the first of a table's codes, counted from one on, whose resistor matches; "no match is code 0"
-abbrev pub codeFrom : ℕ → List ℕ → ℕ → ℕ
-codeFrom code [] ohms = 0
-codeFrom code (nominal ∷ table) ohms = pick (matches nominal ohms) code (codeFrom (suc code) table ohms)
+-- "the lower code taken": the first of a table's codes, counted from one on, whose resistor matches by a test; "no match is code 0"
+abbrev pub lowestBy : (ℕ → ℕ → Bool) → ℕ → List ℕ → ℕ → ℕ
+lowestBy match code [] ohms = 0
+lowestBy match code (nominal ∷ table) ohms = pick (match nominal ohms) code (lowestBy match (suc code) table ohms)
 
 abbrev pub codeIn : List ℕ → ℕ → ℕ
-codeIn table ohms = codeFrom 1 table ohms
+codeIn table ohms = lowestBy matches 1 table ohms
 
 unfoldable pub codeOf : ℕ → ℕ
 codeOf ohms = codeIn resistors ohms
