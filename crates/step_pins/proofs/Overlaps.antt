@@ -7,7 +7,7 @@ use native.Mathlib.Omega.{arith}
 use lib.ListN.{length, getD}
 use lib.Dec.{ltb}
 use borrow.Author.Tests.{ltb-true}
-use Rattle.base.proofs.Tests.{and-iff, leb-iff, ltb-iff}
+use Rattle.base.proofs.Tests.{and-iff, leb-iff}
 use Rattle.step_pins.specs.Codes.{matches}
 use Rattle.step_pins.specs.Spans.{spanOf, keepsApart}
 use Rattle.step_pins.specs.Theorems.{Matches, MatchIsSpan, SpansApart}
@@ -15,8 +15,8 @@ use Rattle.step_pins.proofs.Lowest.{lowest-taken}
 
 pub match-is-span : MatchIsSpan
 match-is-span nominal ohms = (
-  λ e. let k = simp (leb-iff, ltb-iff) at e in (omega (arith, k), omega (arith, k)),
-  λ k. simp (leb-iff, ltb-iff) (omega (arith, k .0, k .1)),
+  λ e. let k = simp leb-iff at e in (omega (arith, k), omega (arith, k)),
+  λ k. simp leb-iff (omega (arith, k .0, k .1)),
 )
 
 -- a span of the table ends before every later one starts
