@@ -1,4 +1,4 @@
--- A run begins with the profile that its power-on's numbers say.
+-- Each power-on says one profile, and a run begins with the one that its power-on says.
 use Prim.Native.Nat.{ℕ, zero, suc}
 use mathlib.Core.Path.{_≡_, refl, sym, ap, subst, _∙_}
 use mathlib.Core.Bool.{Bool, true, false}
@@ -7,6 +7,7 @@ use native.Mathlib.Omega.{arith}
 use Rattle.base.specs.Pick.{pick}
 use Rattle.log_event.specs.declared.Event.{Event}
 use Rattle.log_event.specs.declared.Event.the-variants as event
+use Rattle.log_event.specs.declared.spelled.SpelledResistors.{SpelledResistors}
 use Rattle.state_parts.specs.declared.profile.Profile.{Profile}
 use Rattle.step_pins.specs.Codes.{codeOf}
 use Rattle.step_pins.proofs.Pins.{pin-table}
@@ -14,7 +15,7 @@ use Rattle.step_turns.specs.Ranges.{profileInRange, sampleInRange, resis
 use Rattle.step_turns.specs.Coded.{codedOf}
 use Rattle.step_turns.specs.Turns.{heldProfile, heldSample, opensWith, turnOf}
 use Rattle.step_turns.specs.Begins.{StandsFor, in-span, in-none, byCodes, byResistors, Begins, coded, soldered}
-use Rattle.step_turns.specs.Promises.{BeginsAsSaid}
+use Rattle.step_turns.specs.Promises.{SaysOneProfile, BeginsAsSaid}
 use Rattle.step_turns.specs.declared.later.Later.the-variants.{Observe}
 use Rattle.step_turns.specs.declared.turn.Turn.{Turn}
 use Rattle.step_turns.specs.declared.turn.Turn.the-variants.{Opens, Follows, OpensOutside, FollowsOutside}
@@ -31,6 +32,31 @@ stands-for : {ohms c : ℕ} → StandsFor ohms c → codeOf ohms ≡ c
 stands-for {ohms} (in-span i w) = pin-table .code i ohms .1 w
 stands-for {ohms} (in-none out) = pin-table .none ohms .1 out
 
+-- ---- the profile that is said
+by-its-resistors : (r : SpelledResistors) → Begins (event.PowerOnResistors r) (heldProfile (codedOf r))
+by-its-resistors r = soldered (heldProfile (codedOf r)) (r .cell) (r .vchg) (r .ichg) (stands (r .cell)) (stands (r .vchg)) (stands (r .ichg))
+
+abbrev saidOr : Profile → Event → Profile
+saidOr other (event.PowerOn q) = heldProfile q
+saidOr other (event.Set number value) = other
+saidOr other (event.Write address byte) = other
+saidOr other event.TakeFlags = other
+saidOr other (event.Observe x) = other
+saidOr other event.Service = other
+saidOr other event.Reset = other
+saidOr other (event.PowerOnResistors r) = heldProfile (codedOf r)
+
+is-said : (other : Profile) (e : Event) (p : Profile) → Begins e p → saidOr other e ≡ p
+is-said other _ _ (coded p) = refl
+is-said other _ _ (soldered p cell vchg ichg a b c) = simp (stands-for a, stands-for b, stands-for c)
+
+pub says-one-profile : SaysOneProfile
+says-one-profile = record {
+  codes = λ q. (heldProfile q, coded (heldProfile q));
+  resistors = λ r. (heldProfile (codedOf r), by-its-resistors r);
+  one = λ e p q b c. sym (is-said p e p b) ∙ is-said p e q c;
+}
+
 -- ---- what a turn opens with
 abbrev OpensAs : Turn → Profile → Type 0
 OpensAs t p = (t ≡ Opens p) ⊎ (t ≡ OpensOutside)
@@ -44,7 +70,7 @@ unfolding turnOf
 opens _ _ (coded p) = by-test (profileInRange (byCodes p)) (Opens p) p (inl refl)
 opens _ _ (soldered p cell vchg ichg a b c) =
     let r = byResistors cell vchg ichg p in
-    let is : Opens (heldProfile (codedOf r)) ≡ Opens p = simp (stands-for a, stands-for b, stands-for c) in
+    let is : Opens (heldProfile (codedOf r)) ≡ Opens p = ap Opens (is-said p (event.PowerOnResistors r) p (soldered p cell vchg ichg a b c)) in
     by-test (resistorsInRange r) (opensWith (codedOf r)) p (by-test (profileInRange (codedOf r)) (Opens (heldProfile (codedOf r))) p (inl is))
 
 -- ---- no other event opens a run
@@ -84,7 +110,7 @@ said (event.Observe x) p e = either (sampleInRange x) e
 said event.Service p e = closed _ p refl e
 said event.Reset p e = closed _ p refl e
 said (event.PowerOnResistors r) p e =
-    same (event.PowerOnResistors r) (heldProfile (codedOf r)) p (soldered (heldProfile (codedOf r)) (r .cell) (r .vchg) (r .ichg) (stands (r .cell)) (stands (r .vchg)) (stands (r .ichg))) e
+    same (event.PowerOnResistors r) (heldProfile (codedOf r)) p (by-its-resistors r) e
 
 pub begins-as-said : BeginsAsSaid
 begins-as-said = record { opens = opens; said = said }

@@ -3,6 +3,9 @@ use mathlib.Core.Path.{_≡_}
 use mathlib.Core.Bool.{Bool, true}
 use mathlib.Core.Logic.{_⊎_}
 use Rattle.log_event.specs.declared.Event.{Event}
+use Rattle.log_event.specs.declared.Event.the-variants.{PowerOn, PowerOnResistors}
+use Rattle.log_event.specs.declared.spelled.SpelledProfile.{SpelledProfile}
+use Rattle.log_event.specs.declared.spelled.SpelledResistors.{SpelledResistors}
 use Rattle.state_parts.specs.declared.profile.Profile.{Profile}
 use Rattle.state_valid.specs.Holds.{profileOk, sampleOk}
 use Rattle.step_turns.specs.Turns.{turnOf}
@@ -34,6 +37,12 @@ TurnFits t = turnOk t ≡ true
 
 abbrev pub EveryTurnFits : Type 0
 EveryTurnFits = (e : Event) → TurnFits (turnOf e)
+
+-- each power-on says a profile, in its ranges or not, and no event says two
+pub record SaysOneProfile : Type 0 where
+  pub codes : (q : SpelledProfile) → (p : Profile) × Begins (PowerOn q) p
+  pub resistors : (r : SpelledResistors) → (p : Profile) × Begins (PowerOnResistors r) p
+  pub one : (e : Event) (p q : Profile) → Begins e p → Begins e q → p ≡ q
 
 -- an event that says a profile opens a run with it, or a number of it is outside its range; and no other event opens one
 pub record BeginsAsSaid : Type 0 where
