@@ -24,13 +24,12 @@
  * before all else; then an answer buffer that is too short is 12; then what the call is about is judged. Of an answer
  * buffer the first words are written and the bytes after them stay.
  *
- * Stack, in bytes along the deepest chain of calls, of the module's object code for aarch64 (`make bench` prints them
- * for the machine at hand). No call calls itself.
+ * Stack, in bytes along the deepest chain of calls, return addresses included, by the archive's object code. No call
+ * calls itself. `make test` holds the archive to these figures, 64 bytes more or less.
  *
- *     play   2,288    event    2,256    replay 2,192
- *     report   816    register   608
- *     compare  464    write      176
- *     off      192    rules        0
+ *     event 1,952    play     1,968    replay 1,888
+ *     report  689    register   513    compare  512
+ *     write   284    off        224    rules      8
  */
 #ifndef CHEUKDANE_H
 #define CHEUKDANE_H

@@ -1,12 +1,9 @@
-//! `bench ARCHIVE RUNLOG REFERENCE-RUNLOG`: the static library and the
-//! reference on the same logs, in one run. The library linked here should be
-//! the archive named. (`bench once CONTENDER` is what the first of them has
-//! counted of itself; `bench stack ARCHIVE` is the table of stack bytes alone.)
+//! `bench RUNLOG REFERENCE-RUNLOG`: the static library and the reference on the
+//! same logs, in one run. (`bench once CONTENDER` is what the first of them has
+//! counted of itself.)
 
 mod counted;
 mod events;
-mod frames;
-mod listing;
 mod plain;
 mod plain_words;
 mod programs;
@@ -20,16 +17,13 @@ fn main() -> ExitCode {
     let words: Vec<String> = env::args().skip(1).collect();
     match words.iter().map(String::as_str).collect::<Vec<_>>().as_slice() {
         ["once", contender] => events::once(contender),
-        ["stack", archive] => frames::show(Path::new(archive)),
-        [archive, runlog, reference] => {
+        [runlog, reference] => {
             events::show();
             println!();
             programs::show(Path::new(runlog), Path::new(reference));
-            println!();
-            frames::show(Path::new(archive));
         }
         _ => {
-            eprintln!("bench ARCHIVE RUNLOG REFERENCE-RUNLOG");
+            eprintln!("bench RUNLOG REFERENCE-RUNLOG");
             return ExitCode::FAILURE;
         }
     }
