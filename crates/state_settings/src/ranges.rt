@@ -11,85 +11,6 @@ pub struct Range {
     pub step: u32,
 }
 
-// Settings 1 to 14 at their numbers; nothing is in the range at 0.
-const RANGES: [Range; 15] = [
-    Range {
-        low: 1,
-        high: 0,
-        step: 1,
-    },
-    Range {
-        low: 2400,
-        high: 33000,
-        step: 10,
-    },
-    Range {
-        low: 40,
-        high: 3300,
-        step: 20,
-    },
-    Range {
-        low: 20,
-        high: 620,
-        step: 20,
-    },
-    Range {
-        low: 20,
-        high: 620,
-        step: 20,
-    },
-    Range {
-        low: 40,
-        high: 3300,
-        step: 20,
-    },
-    Range {
-        low: 3000,
-        high: 28000,
-        step: 20,
-    },
-    Range {
-        low: 0,
-        high: 3,
-        step: 1,
-    },
-    Range {
-        low: 0,
-        high: 3,
-        step: 1,
-    },
-    Range {
-        low: 0,
-        high: 1,
-        step: 1,
-    },
-    Range {
-        low: 0,
-        high: 1,
-        step: 1,
-    },
-    Range {
-        low: 0,
-        high: 1,
-        step: 1,
-    },
-    Range {
-        low: 0,
-        high: 1,
-        step: 1,
-    },
-    Range {
-        low: 0,
-        high: 1,
-        step: 1,
-    },
-    Range {
-        low: 0,
-        high: 4095,
-        step: 1,
-    },
-];
-
 // There is a setting of this number.
 pub fn known(p: Profile, number: u32) -> bool
     ensures { λ r. ⌜ r ≡ knownSetting p number ⌝ }
@@ -97,12 +18,87 @@ pub fn known(p: Profile, number: u32) -> bool
     (1 <= number) & (number <= 14)
 }
 
-// The table's row of a number.
+// The table's row of a number: settings 1 to 14 at theirs, and nothing is in the range at 0. A `match`, since an array would be laid on the stack.
 fn range_of(p: Profile, number: u32) -> Range
     ensures { λ r. ⌜ r ≡ rangeOf p number ⌝ }
 {
-    let i = (number % 15) as usize;
-    RANGES[i]
+    match number % 15 {
+        0 => Range {
+            low: 1,
+            high: 0,
+            step: 1,
+        },
+        1 => Range {
+            low: 2400,
+            high: 33000,
+            step: 10,
+        },
+        2 => Range {
+            low: 40,
+            high: 3300,
+            step: 20,
+        },
+        3 => Range {
+            low: 20,
+            high: 620,
+            step: 20,
+        },
+        4 => Range {
+            low: 20,
+            high: 620,
+            step: 20,
+        },
+        5 => Range {
+            low: 40,
+            high: 3300,
+            step: 20,
+        },
+        6 => Range {
+            low: 3000,
+            high: 28000,
+            step: 20,
+        },
+        7 => Range {
+            low: 0,
+            high: 3,
+            step: 1,
+        },
+        8 => Range {
+            low: 0,
+            high: 3,
+            step: 1,
+        },
+        9 => Range {
+            low: 0,
+            high: 1,
+            step: 1,
+        },
+        10 => Range {
+            low: 0,
+            high: 1,
+            step: 1,
+        },
+        11 => Range {
+            low: 0,
+            high: 1,
+            step: 1,
+        },
+        12 => Range {
+            low: 0,
+            high: 1,
+            step: 1,
+        },
+        13 => Range {
+            low: 0,
+            high: 1,
+            step: 1,
+        },
+        _ => Range {
+            low: 0,
+            high: 4095,
+            step: 1,
+        },
+    }
 }
 
 // A value of a range that lies on its step.
