@@ -1,6 +1,6 @@
 /* Cheukdane: the one model of a pack's BQ25690 charger, for a head's firmware.
  *
- * What to link: libcheukdane.a, for x86-64 Linux; of the C library it needs memcpy alone.
+ * What to link: libcheukdane.a, for x86-64 Linux; of the C library it needs memcpy at the most.
  * No call allocates, reads a clock, takes a lock, sets errno or calls back.
  *
  * A head holds the model as an image, a plain array of bytes of its own, and lends it to each call. No call keeps
@@ -27,8 +27,8 @@
  * Stack, in bytes along the deepest chain of calls, return addresses included, by the archive's object code. No call
  * calls itself. `make test` holds the archive to these figures, 64 bytes more or less.
  *
- *     event 1,776    play     1,792    replay 1,712
- *     report  689    register   513    compare  512
+ *     event 1,360    play     1,328    replay 1,280
+ *     report  545    register   513    compare  512
  *     write   284    off        224    rules      8
  */
 #ifndef CHEUKDANE_H

@@ -1,15 +1,21 @@
--- What the functions of `landing` ask, over plain values.
+-- What a call on an image begins with, and what `land` asks, over plain values.
 use Prim.Native.Nat.{ℕ, _≤_, _<_}
 use mathlib.Core.Path.{_≡_, refl}
-use mathlib.Core.List.{List}
+use mathlib.Core.List.{List, []}
 use native.Mathlib.Omega.{arith}
 use lib.ListN.{length}
 use borrow.Author.Tests.{lt-ltb, le-ltb, eq-eqb, ne-eqb}
 use Rattle.base.specs.Told.{Told, accepted, refused}
 use Rattle.base.specs.Writing.{put}
 use Rattle.state_parts.specs.declared.state.Model.{Model}
-use Rattle.step_event.specs.Plays.{cameTold}
-use Rattle.step_event.specs.declared.replaying.Came.{Came}
+use Rattle.log_event.specs.declared.Event.{Event}
+use Rattle.log_record.specs.Records.{met}
+use Rattle.step_event.specs.Steps.{stepOf}
+use Rattle.step_event.specs.Walks.{cameTold, metBy, walkFrom}
+use Rattle.step_event.specs.Rests.{playedBy}
+use Rattle.step_event.specs.declared.walking.Walk.{Walk}
+use Rattle.step_event.specs.declared.replaying.Ended.{Ended}
+use Rattle.step_event.proofs.Playing.{played-alone}
 use Rattle.c_words.specs.Words.{bytesOf}
 use Rattle.c_image.specs.Images.{imageLength, modelIn, loadedTold, savedIn}
 use Rattle.c_image.specs.declared.Loaded.{Loaded}
@@ -39,13 +45,19 @@ ready-long image room wanted m e = go (modelIn image) refl e
     go (accepted n) ex e = loaded-long image n ex
     go (refused n) ex e = absurd (let z : _≡_ {A = ℕ} 0 1 = cc in omega arith)
 
-module _ (came : Came) (image shown : List ℕ) where
-  pub landed : (numbers saved left : List ℕ) → came .last .number ≡ 0 → length image ≡ imageLength
-      → numbers ≡ shownNumbers (came .model) (came .last .pulse) (came .last .handed) → saved ≡ savedIn image (came .model) → left ≡ put (bytesOf numbers) shown
-      → both 0 saved left ≡ landOf (cameTold came) image shown
+module _ (walk : Walk) (image shown : List ℕ) where
+  pub landed : (numbers saved left : List ℕ) → walk .came .number ≡ 0 → length image ≡ imageLength
+      → numbers ≡ shownNumbers (walk .model) (walk .came .pulse) (walk .came .handed) → saved ≡ savedIn image (walk .model) → left ≡ put (bytesOf numbers) shown
+      → both 0 saved left ≡ landOf (cameTold walk) image shown
   unfolding landOf savedIn
   landed numbers saved left e l en es el = rw (e, es, el, en, eq-eqb (length image) imageLength l)
 
-  pub not-landed : (came .last .number ≡ 0 → ⊥) → both (came .last .number) image shown ≡ landOf (cameTold came) image shown
+  pub not-landed : (walk .came .number ≡ 0 → ⊥) → both (walk .came .number) image shown ≡ landOf (cameTold walk) image shown
   unfolding landOf
-  not-landed h = rw (ne-eqb (came .last .number) 0 h)
+  not-landed h = rw (ne-eqb (walk .came .number) 0 h)
+
+-- an event that is played alone lands as its step
+pub lands-alone : (m : Model) (e : Event) (next : ℕ) (ended : Ended) (image shown : List ℕ) → ended ≡ playedBy [] (walkFrom m 0) (met e next)
+    → landOf (cameTold (ended .walk)) image shown ≡ landOf (stepOf m e) image shown
+unfolding landOf metBy
+lands-alone m e next ended image shown ee = rw (ee, played-alone (walkFrom m 0) e next)

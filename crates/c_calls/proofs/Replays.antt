@@ -12,7 +12,8 @@ use Rattle.c_image.specs.declared.Loaded.{Loaded}
 use Rattle.c_image.specs.declared.Loaded.the-variants.{Held, NoImage}
 use Rattle.c_image.proofs.ImageLaws.{loaded-long}
 use Rattle.c_calls.specs.Landing.{Left, left}
-use Rattle.c_calls.specs.Replaying.{walkFrom, replayOf}
+use Rattle.step_event.specs.Walks.{walkFrom}
+use Rattle.c_calls.specs.Replaying.{replayOf}
 use Rattle.c_calls.specs.declared.answer.Replayed.{Replayed}
 
 module _ (image log : List ℕ) (place : ℕ) (x : Loaded) (told : loadedTold x ≡ modelIn image) where

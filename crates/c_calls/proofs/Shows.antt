@@ -3,9 +3,8 @@ use Prim.Native.Nat.{ℕ}
 use mathlib.Core.Path.{_≡_}
 use mathlib.Core.List.{List}
 use lib.ListN.{length}
-use Rattle.base.specs.Refusals.{refusalNumber}
+use Rattle.base.specs.Told.{accepted, refused}
 use Rattle.base.specs.Writing.{put}
-use Rattle.base.specs.declared.refusal.Refusal.{Refusal}
 use Rattle.state_parts.specs.declared.state.State.{State}
 use Rattle.state_parts.specs.declared.state.Model.{Model}
 use Rattle.state_parts.specs.declared.state.Model.the-variants.{Off, On}
@@ -15,25 +14,24 @@ use Rattle.c_words.specs.Words.{bytesOf}
 use Rattle.c_image.specs.Images.{modelIn, loadedTold}
 use Rattle.c_image.specs.declared.Loaded.{Loaded}
 use Rattle.c_image.specs.declared.Loaded.the-variants.{Held, NoImage}
-use Rattle.c_calls.specs.Landing.{left, answered, readyTold, readyOf}
+use Rattle.c_calls.specs.Landing.{left, answered, readyOf}
 use Rattle.c_calls.specs.Showing.{reportNumbers, reportCallOf, byteTold, registerOf}
+use Rattle.c_calls.specs.declared.answer.Answer.{Answer}
 use Rattle.c_calls.specs.declared.answer.Byte.{Byte}
-use Rattle.c_calls.specs.declared.landing.Ready.{Ready}
-use Rattle.c_calls.specs.declared.landing.Ready.the-variants as ready
 
-module _ (image report : List ℕ) (x : Ready) (told : readyTold x ≡ readyOf image (length report) 24) where
-  pub not-reported : (r : Refusal) (n : ℕ) → x ≡ ready.Refused r → n ≡ refusalNumber r → left (answered n) report ≡ reportCallOf image report
+module _ (image report : List ℕ) (a : Answer) where
+  pub not-reported : (n : ℕ) → refused n ≡ readyOf image (length report) 24 → a ≡ answered n → left a report ≡ reportCallOf image report
   unfolding reportCallOf
-  not-reported r n e en = rw (← told, e, en)
+  not-reported n told ea = rw (← told, ea)
 
-  pub reported-off : (m : Model) → x ≡ ready.Model m → m ≡ Off → left (answered 6) report ≡ reportCallOf image report
-  unfolding reportCallOf
-  reported-off m e em = rw (← told, e, em)
+  module _ (m : Model) (told : accepted m ≡ readyOf image (length report) 24) where
+    pub reported-off : m ≡ Off → a ≡ answered 6 → left a report ≡ reportCallOf image report
+    unfolding reportCallOf
+    reported-off em ea = rw (← told, em, ea)
 
-  pub reported : (m : Model) (s : State) (numbers bytes : List ℕ) → x ≡ ready.Model m → m ≡ On s → numbers ≡ reportNumbers s → bytes ≡ put (bytesOf numbers) report
-      → left (answered 0) bytes ≡ reportCallOf image report
-  unfolding reportCallOf
-  reported m s numbers bytes e em en eb = rw (← told, e, em, eb, en)
+    pub reported : (s : State) (numbers bytes : List ℕ) → m ≡ On s → numbers ≡ reportNumbers s → bytes ≡ put (bytesOf numbers) report → a ≡ answered 0 → left a bytes ≡ reportCallOf image report
+    unfolding reportCallOf
+    reported s numbers bytes em en eb ea = rw (← told, em, eb, en, ea)
 
 module _ (image : List ℕ) (address : ℕ) (x : Loaded) (told : loadedTold x ≡ modelIn image) where
   pub no-register : x ≡ NoImage → _≡_ {A = Byte} (record { number = 5; byte = 0; place = 0 }) (registerOf image address)

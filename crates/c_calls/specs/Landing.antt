@@ -4,7 +4,6 @@ use mathlib.Core.Bool.{Bool}
 use mathlib.Core.List.{List, [], _∷_}
 use lib.Dec.{ltb, eqb}
 use Rattle.base.specs.Pick.{pick, bitOf}
-use Rattle.base.specs.Refusals.{refusalNumber}
 use Rattle.base.specs.Volts.{millivoltsOf}
 use Rattle.base.specs.Told.{Told, accepted, refused}
 use Rattle.base.specs.Writing.{put}
@@ -16,8 +15,6 @@ use Rattle.step_kinds.specs.Answers.{Outcome}
 use Rattle.c_words.specs.Words.{bytesOf}
 use Rattle.c_image.specs.Images.{imageOf, modelIn}
 use Rattle.c_calls.specs.declared.answer.Answer.{Answer}
-use Rattle.c_calls.specs.declared.landing.Ready.{Ready}
-use Rattle.c_calls.specs.declared.landing.Ready.the-variants as ready
 
 -- what a call answers, and the bytes that it leaves in the one part that it may change
 pub record Left (A : Type 0) : Type 0 where
@@ -47,10 +44,6 @@ withRoom (accepted m) room wanted = pick (ltb room wanted) (refused 12) (accepte
 
 unfoldable pub readyOf : List ℕ → ℕ → ℕ → Told Model
 readyOf image room wanted = withRoom (modelIn image) room wanted
-
-abbrev pub readyTold : Ready → Told Model
-readyTold (ready.Model m) = accepted m
-readyTold (ready.Refused r) = refused (refusalNumber r)
 
 -- "what an accepted event shows: phase, current, voltage, input limit, pulse, held flags, and the flags that the event handed back (kind 4)"
 unfoldable pub shownNumbers : Model → Bool → ℕ → List ℕ

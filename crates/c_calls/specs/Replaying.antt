@@ -3,16 +3,12 @@ use Prim.Native.Nat.{ℕ}
 use mathlib.Core.List.{List}
 use Rattle.base.specs.Told.{Told, accepted, refused}
 use Rattle.state_parts.specs.declared.state.Model.{Model}
-use Rattle.step_event.specs.declared.walking.Walk.{Walk}
+use Rattle.step_event.specs.Walks.{walkFrom}
 use Rattle.step_event.specs.Rests.{endedOf}
 use Rattle.step_event.specs.declared.replaying.Ended.{Ended}
 use Rattle.c_image.specs.Images.{imageOf, modelIn}
 use Rattle.c_calls.specs.Landing.{Left, left}
 use Rattle.c_calls.specs.declared.answer.Replayed.{Replayed}
-
--- a walk that begins with a model at a place: nothing is read
-abbrev pub walkFrom : Model → ℕ → Walk
-walkFrom m place = record { model = m; number = 0; place = place }
 
 -- "The image is the model after them"; "how many were read", "the log's end; with a code, the place of what decided it", "where to go on: the log's end, or where the
 -- record that can't be read starts"

@@ -1,8 +1,18 @@
 // What the calls answer: a number, 0 or the refusal's, its place, and what the call is about.
+ghost use mathlib.Core.Path.{_≡_};
+ghost use Rattle.c_calls.specs.Landing.{answered};
+
 #[repr(C)]
 pub struct Answer {
     pub number: u32,
     pub place: usize,
+}
+
+// Outside a log.
+pub(crate) fn answered(number: u32) -> Answer
+    ensures { λ r. ⌜ r ≡ answered number ⌝ }
+{
+    Answer { number, place: 0 }
 }
 
 #[repr(C)]

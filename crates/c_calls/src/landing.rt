@@ -1,38 +1,15 @@
-// The model that a call starts with, and what an event leaves in the image and the answer buffer.
+// What an event leaves in the image and the answer buffer.
 ghost use mathlib.Core.Path.{_≡_};
 ghost use lib.ListN.{length};
-ghost use Rattle.step_event.specs.Plays.{cameTold};
+ghost use Rattle.step_event.specs.Walks.{cameTold};
 ghost use Rattle.c_image.specs.Images.{imageLength};
-ghost use Rattle.c_calls.specs.Landing.{both, shownNumbers, landOf, readyTold, readyOf};
+ghost use Rattle.c_calls.specs.Landing.{both, shownNumbers, landOf};
 use base::choice;
-use base::refusal;
-use base::refusal::Refusal;
 use base::volts;
-use c_image::Loaded;
 use report_state::report;
 use state_parts::phase;
 use state_parts::state::Model;
-use step_event::replaying::Came;
-
-// The model of an image, or why the call is refused before all else.
-pub enum Ready {
-    Model(Model),
-    Refused(Refusal),
-}
-
-// The model of an image, in a call whose answer buffer has `room` bytes and wants so many.
-pub(crate) fn begin(image: &[u8], room: usize, wanted: usize) -> Ready
-    ensures { λ r. ⌜ readyTold r ≡ readyOf (now (image .entry)) room wanted ⌝ }
-{
-    let loaded = c_image::load(image);
-    let Loaded::Held(model) = loaded else {
-        return Ready::Refused(Refusal::OutOfRange);
-    };
-    if room < wanted {
-        return Ready::Refused(Refusal::NoRoom);
-    }
-    Ready::Model(model)
-}
+use step_event::walking::Walk;
 
 // What an accepted event shows.
 type Shown = [u32; 7];
@@ -57,17 +34,17 @@ fn shown_numbers(m: Model, pulse: bool, handed: u32) -> Shown
     }
 }
 
-// Leaves what an event came to in the image and the answer buffer: its number.
-pub(crate) fn land(image: &mut [u8], shown: &mut [u8], came: Came) -> u32
+// Leaves what an event came to, the only one of a walk, in the image and the answer buffer: its number.
+pub(crate) fn land(image: &mut [u8], shown: &mut [u8], walk: Walk) -> u32
     requires { ⌜ length (now image) ≡ imageLength ⌝ }
-    ensures { λ r. ⌜ both r (now (image .exit)) (now (shown .exit)) ≡ landOf (cameTold came) (now (image .entry)) (now (shown .entry)) ⌝ }
+    ensures { λ r. ⌜ both r (now (image .exit)) (now (shown .exit)) ≡ landOf (cameTold walk) (now (image .entry)) (now (shown .entry)) ⌝ }
 {
-    let after = came.model;
-    let last = came.last;
-    if last.number != 0 {
-        return last.number;
+    let after = walk.model;
+    let came = walk.came;
+    if came.number != 0 {
+        return came.number;
     }
-    let numbers = shown_numbers(after, last.pulse, last.handed);
+    let numbers = shown_numbers(after, came.pulse, came.handed);
     c_words::write(shown, &numbers);
     c_image::save(image, after);
     0

@@ -3,7 +3,6 @@ ghost use Rattle.c_calls.specs.Contracts.{ReplayPromise};
 use crate::answer::Replayed;
 use c_image::Loaded;
 use step_event::replaying;
-use step_event::walking::Walk;
 
 // Plays every record of a log from a place on.
 #[no_mangle]
@@ -20,12 +19,8 @@ pub extern "C" fn cheukdane_replay(image: &mut [u8], log: &[u8], place: usize) -
             next: place,
         },
         Loaded::Held(model) => {
-            let from = Walk {
-                model,
-                number: 0,
-                place,
-            };
-            let ended = replaying::replay(log, from);
+            let got = log_record::read(log, place);
+            let ended = replaying::run(log, model, place, got);
             let after = ended.walk;
             let held = after.model;
             c_image::save(image, held);

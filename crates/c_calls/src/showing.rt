@@ -5,8 +5,7 @@ ghost use Rattle.c_calls.specs.Contracts.{ReportPromise, RegisterPromise
 ghost use Rattle.state_registers.specs.Reads.{registerTold};
 use crate::answer::Answer;
 use crate::answer::Byte;
-use crate::landing;
-use crate::landing::Ready;
+use crate::answer::answered;
 use base::refusal;
 use base::volts;
 use c_image::Loaded;
@@ -41,26 +40,20 @@ fn report_numbers(s: State) -> Report
 pub extern "C" fn cheukdane_report(image: &[u8], report: &mut [u8]) -> Answer
     ensures { λ r. ⌜ ReportPromise (now (image .entry)) (now (report .entry)) r (now (report .exit)) ⌝ }
 {
-    let ready = landing::begin(image, report.len(), 24);
-    match ready {
-        Ready::Refused(r) => {
-            let number = refusal::number(r);
-            Answer { number, place: 0 }
+    let loaded = c_image::load(image);
+    let Loaded::Held(model) = loaded else {
+        return answered(5);
+    };
+    if report.len() < 24 {
+        return answered(12);
+    }
+    match model {
+        Model::Off => answered(6),
+        Model::On(s) => {
+            let numbers = report_numbers(s);
+            c_words::write(report, &numbers);
+            answered(0)
         }
-        Ready::Model(model) => match model {
-            Model::Off => Answer {
-                number: 6,
-                place: 0,
-            },
-            Model::On(s) => {
-                let numbers = report_numbers(s);
-                c_words::write(report, &numbers);
-                Answer {
-                    number: 0,
-                    place: 0,
-                }
-            }
-        },
     }
 }
 

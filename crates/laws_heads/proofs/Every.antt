@@ -16,6 +16,7 @@ use Rattle.log_event.specs.declared.Event.{Event}
 use Rattle.state_parts.specs.declared.state.Model.the-variants.{Off}
 use Rattle.log_event.proofs.Table.{own-row}
 use Rattle.log_record.specs.Records.{Met}
+use Rattle.step_event.specs.Walks.{startWalk}
 use Rattle.c_words.specs.Words.{wordBytes, bytesOf, wordAt, wordsIn}
 use Rattle.c_words.specs.Promises.{AllWords}
 use Rattle.c_words.proofs.WordLaws.{length-words}
@@ -109,7 +110,8 @@ module _ (log : List ℕ) (bs : Bytes log) where
 -- what a walk over the log comes to has one ending
 one-ending : (log : List ℕ) → Bytes log → {place : ℕ} {es fs : List Event} (a b : Ending) → ReplayGives log place es a → ReplayGives log place fs b → a ≡ b
 one-ending log bs a b g h =
-    let same = sym (ended log bs g Off 0 (omega arith)) ∙ ended log bs h Off 0 (omega arith) in
+    let from = startWalk .came in
+    let same = sym (ended log bs g Off from 0 (omega arith)) ∙ ended log bs h Off from 0 (omega arith) in
     λ i. record { code = same i .code; told = same i .place; next = same i .walk .place }
 
 -- two lists that are one thing are one

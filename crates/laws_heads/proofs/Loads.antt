@@ -14,7 +14,7 @@ use Rattle.log_record.specs.Records.{met, end, recordAt}
 use Rattle.log_record.specs.Records as log
 use Rattle.c_image.specs.Images.{imageLength, modelIn}
 use Rattle.c_event.specs.Given.{givenOf}
-use Rattle.c_calls.specs.Replaying.{walkFrom}
+use Rattle.step_event.specs.Walks.{walkFrom}
 use Rattle.c_calls.specs.Promises.{ourCalls}
 use Rattle.laws_images.specs.Promises.{afterRead, afterGiven}
 use Rattle.laws_images.proofs.Keeping.{keeps-image}

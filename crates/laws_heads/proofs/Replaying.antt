@@ -12,16 +12,16 @@ use Rattle.log_record.specs.Records.{recordAt}
 use Rattle.log_record.specs.Records as log
 use Rattle.state_parts.specs.declared.state.Model.{Model}
 use Rattle.step_event.specs.Steps.{stepOf}
-use Rattle.step_event.specs.Walks.{numberAfter, metBy}
+use Rattle.step_event.specs.Walks.{cameOf, numberAfter, metBy, walkFrom}
 use Rattle.step_event.specs.Pages.{restOf}
-use Rattle.step_event.specs.Plays.{playedBy}
-use Rattle.step_event.specs.Rests.{endedOf}
+use Rattle.step_event.specs.Rests.{endedOf, playedBy}
 use Rattle.step_event.specs.declared.replaying.Ended.{Ended}
+use Rattle.step_event.specs.declared.walking.Came.{Came}
 use Rattle.step_event.specs.declared.walking.Walk.{Walk}
 use Rattle.step_event.proofs.Playing.{played-is}
 use Rattle.c_image.specs.Images.{imageOf, modelIn}
 use Rattle.c_calls.specs.Landing.{Left, left}
-use Rattle.c_calls.specs.Replaying.{walkFrom, replayOf}
+use Rattle.c_calls.specs.Replaying.{replayOf}
 use Rattle.c_calls.specs.declared.answer.Replayed.{Replayed}
 use Rattle.laws_account.specs.Refused.{Past, nextOf, pastOf}
 use Rattle.laws_account.specs.States.{modelOf}
@@ -35,38 +35,46 @@ use Rattle.laws_heads.specs.Second.{replayedWith}
 use Rattle.laws_heads.proofs.Givens.{met-there}
 
 -- ---- the walk's end
-abbrev walkAt : Model → ℕ → ℕ → Walk
-walkAt m number place = record { model = m; number = number; place = place }
+abbrev walkAt : Model → Came → ℕ → ℕ → Walk
+walkAt m came number place = record { model = m; came = came; number = number; place = place }
+
+-- what the last of these events comes to
+abbrev lastOf : Model → Came → List Event → Came
+lastOf m came [] = came
+lastOf m came (e ∷ es) = lastOf (stepOf m e .model) (cameOf (stepOf m e)) es
 
 -- so many events on a model, and how they end
-abbrev endOf : Model → ℕ → List Event → Ending → Ended
-endOf m number es ending = record { walk = walkAt (ranBy stepOf m es) ((number + length es) % 2 ^ 32) (ending .next); code = ending .code; place = ending .told }
+abbrev endOf : Model → Came → ℕ → List Event → Ending → Ended
+endOf m came number es ending =
+    record { walk = walkAt (ranBy stepOf m es) (lastOf m came es) ((number + length es) % 2 ^ 32) (ending .next); code = ending .code; place = ending .told }
 
-no-more : (m : Model) (number place code told : ℕ) → number < 2 ^ 32
-    → record { walk = walkAt m number place; code = code; place = told } ≡ endOf m number [] (record { code = code; told = told; next = place })
+no-more : (m : Model) (came : Came) (number place code told : ℕ) → number < 2 ^ 32
+    → record { walk = walkAt m came number place; code = code; place = told } ≡ endOf m came number [] (record { code = code; told = told; next = place })
 unfolding ranBy
-no-more m number place code told small =
+no-more m came number place code told small =
     let same : number ≡ (number + 0) % 2 ^ 32 = omega arith in
-    ap (λ n. record { walk = walkAt m n place; code = code; place = told }) same
+    ap (λ n. record { walk = walkAt m came n place; code = code; place = told }) same
 
 module _ (bytes : List ℕ) (bs : Bytes bytes) where
   played-at : (w : Walk) {x : log.Met} → recordAt kinds bytes (w .place) ≡ x → endedOf bytes w ≡ playedBy bytes w x
   played-at w h = sym (played-is bytes bs w) ∙ ap (playedBy bytes w) h
 
-  stops-there : {place code told : ℕ} → NoRecordAt bytes place code told → (m : Model) (number : ℕ) → number < 2 ^ 32
-      → endedOf bytes (walkAt m number place) ≡ endOf m number [] (record { code = code; told = told; next = place })
-  stops-there {place} (unreadable n decided row) m number small =
-      played-at (walkAt m number place) (our-reads .refuses bytes bs place n decided .1 row) ∙ no-more m number place n decided small
-  stops-there {place} (at-end late) m number small = played-at (walkAt m number place) (our-reads .ends bytes bs place .1 late) ∙ no-more m number place 0 place small
+  stops-there : {place code told : ℕ} → NoRecordAt bytes place code told → (m : Model) (came : Came) (number : ℕ) → number < 2 ^ 32
+      → endedOf bytes (walkAt m came number place) ≡ endOf m came number [] (record { code = code; told = told; next = place })
+  stops-there {place} (unreadable n decided row) m came number small =
+      played-at (walkAt m came number place) (our-reads .refuses bytes bs place n decided .1 row) ∙ no-more m came number place n decided small
+  stops-there {place} (at-end late) m came number small =
+      played-at (walkAt m came number place) (our-reads .ends bytes bs place .1 late) ∙ no-more m came number place 0 place small
 
-  pub ended : {place : ℕ} {es : List Event} {ending : Ending} → ReplayGives bytes place es ending → (m : Model) (number : ℕ) → number < 2 ^ 32
-      → endedOf bytes (walkAt m number place) ≡ endOf m number es ending
+  pub ended : {place : ℕ} {es : List Event} {ending : Ending} → ReplayGives bytes place es ending → (m : Model) (came : Came) (number : ℕ) → number < 2 ^ 32
+      → endedOf bytes (walkAt m came number place) ≡ endOf m came number es ending
   unfolding metBy ranBy
-  ended (stops place code told h) m number small = stops-there h m number small
-  ended (goes-on place e next es ending k more) m number small =
+  ended (stops place code told h) m came number small = stops-there h m came number small
+  ended (goes-on place e next es ending k more) m came number small =
       let count : (numberAfter number + length es) % 2 ^ 32 ≡ (number + suc (length es)) % 2 ^ 32 = omega arith in
-      played-at (walkAt m number place) (met-there k) ∙ ended more (stepOf m e .model) (numberAfter number) (omega arith)
-      ∙ ap (λ n. record { walk = walkAt (ranBy stepOf (stepOf m e .model) es) n (ending .next); code = ending .code; place = ending .told }) count
+      let o = stepOf m e in
+      played-at (walkAt m came number place) (met-there k) ∙ ended more (o .model) (cameOf o) (numberAfter number) (omega arith)
+      ∙ ap (λ n. record { walk = walkAt (ranBy stepOf (o .model) es) (lastOf (o .model) (cameOf o) es) n (ending .next); code = ending .code; place = ending .told }) count
 
 -- ---- the call
 module _ (image : List ℕ) (m : Model) (loads : modelIn image ≡ accepted m) (bytes : List ℕ) (bs : Bytes bytes) {place : ℕ} {es : List Event} {ending : Ending} (g : ReplayGives bytes place es ending) where
@@ -76,7 +84,7 @@ module _ (image : List ℕ) (m : Model) (loads : modelIn image ≡ accepted m) (
   pub replay-is : replayOf image bytes place ≡ left (replayedWith (length es) ending) (imageOf (ranBy stepOf m es))
   unfolding replayOf
   replay-is =
-      rw (loads, ended bytes bs g m 0 (omega arith))
+      rw (loads, ended bytes bs g m (walkFrom m place .came) 0 (omega arith))
       (ap (λ n. left (record { number = 0; code = ending .code; records = n; place = ending .told; next = ending .next }) (imageOf (ranBy stepOf m es))) counted)
 
   -- the image that it leaves loads again
@@ -85,7 +93,7 @@ module _ (image : List ℕ) (m : Model) (loads : modelIn image ≡ accepted m) (
   loads-after =
       let w = walkFrom m place in
       let same : restOf bytes w .last .model ≡ ranBy stepOf m es =
-      sym (ended-model (restOf bytes w .last) (restOf bytes w .stop)) ∙ ap (λ (e : Ended). e .walk .model) (ended bytes bs g m 0 (omega arith)) in
+      sym (ended-model (restOf bytes w .last) (restOf bytes w .stop)) ∙ ap (λ (e : Ended). e .walk .model) (ended bytes bs g m (walkFrom m place .came) 0 (omega arith)) in
       ap modelIn (sym (ap (λ (l : Left Replayed). l .bytes) replay-is)) ∙ keeps-image .replay image m loads bytes bs place ∙ ap accepted same
 
 -- the model after events is the one that the account has of them

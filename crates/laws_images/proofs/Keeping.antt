@@ -27,7 +27,8 @@ use Rattle.c_image.proofs.ImageLaws.{loads-back}
 use Rattle.c_event.specs.Given.{givenOf}
 use Rattle.c_calls.specs.Landing.{Both, readyOf, landOf}
 use Rattle.c_calls.specs.Playing.{offOf, playReady, playOf, eventReady, eventCallOf}
-use Rattle.c_calls.specs.Replaying.{walkFrom, replayOf}
+use Rattle.step_event.specs.Walks.{walkFrom}
+use Rattle.c_calls.specs.Replaying.{replayOf}
 use Rattle.laws_images.specs.Promises.{afterRead, afterGiven, whereRoom, KeepsImage}
 use Rattle.laws_images.proofs.Giving.{given-fits}
 use Rattle.laws_images.proofs.Loading.{loaded-storable}

@@ -24,7 +24,8 @@ use Rattle.c_image.specs.Images.{modelIn, isLong}
 use Rattle.c_image.specs.Promises.{Storable}
 use Rattle.c_event.specs.Given.{givenOf}
 use Rattle.c_calls.specs.Playing.{offOf, playOf, eventCallOf}
-use Rattle.c_calls.specs.Replaying.{walkFrom, replayOf}
+use Rattle.step_event.specs.Walks.{walkFrom}
+use Rattle.c_calls.specs.Replaying.{replayOf}
 
 -- both held stamps have 32 bits: "a counter that runs free and wraps at 2^32"
 abbrev pub Stamped : State → Type 0

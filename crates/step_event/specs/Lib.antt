@@ -6,6 +6,5 @@ pub mod Walks
 pub mod Pages
 pub mod Wholes
 pub mod Rests
-pub mod Plays
 pub mod Replays
 pub mod Contracts

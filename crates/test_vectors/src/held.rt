@@ -1,6 +1,5 @@
 // What the model holds after a record: its number, the eight registers, the fourteen settings, the band, STAT and the flags that the record handed back.
 use crate::say;
-use libc::STDOUT_FILENO;
 use report_state::answer::Stat;
 use report_state::stat;
 use state_parts::band::Band;
@@ -65,16 +64,16 @@ fn state(s: State) {
 }
 
 pub(crate) fn print(m: Met) {
-    let handed = m.handed;
     let number = m.line.number;
     let walk = m.walk;
+    let handed = walk.came.handed;
     let model = walk.model;
     match model {
         Model::Off => {}
         Model::On(s) => {
             say::number(number);
             state(s);
-            io::print_decimal(STDOUT_FILENO, handed as u64);
+            say::decimal(handed);
             say::text(b"\n");
         }
     }
