@@ -86,3 +86,45 @@ fn joined(names: Vec<&String>) -> String {
         _ => names.iter().map(|name| name.as_str()).collect::<Vec<_>>().join(", "),
     }
 }
+
+#[cfg(test)]
+mod tests {
+    use super::*;
+    use crate::listing::functions;
+
+    /// `one` calls `short` and `long`; `long` calls `deep`, which calls it back.
+    const LISTING: &str = "\
+f.o:     file format elf64-x86-64
+
+0000000000000000 <cheukdane_one>:
+   0:\tsub    $0x10,%rsp
+   4:\tcall   9 <cheukdane_one+0x9>
+\t\t\t5: R_X86_64_PLT32\tshort-0x4
+   9:\tcall   e <cheukdane_one+0xe>
+\t\t\ta: R_X86_64_PLT32\tlong-0x4
+
+0000000000000000 <short>:
+   0:\tsub    $0x28,%rsp
+
+0000000000000000 <long>:
+   0:\tpush   %rbx
+   1:\tcall   6 <long+0x6>
+\t\t\t2: R_X86_64_PLT32\tdeep-0x4
+
+0000000000000000 <deep>:
+   0:\tsub    $0x30,%rsp
+   4:\tcall   9 <deep+0x9>
+\t\t\t5: R_X86_64_PLT32\tlong-0x4
+   9:\tcall   e <deep+0xe>
+\t\t\ta: R_X86_64_PLT32\tmemcpy-0x4
+";
+
+    #[test]
+    fn the_deepest_chain_and_not_the_widest_function() {
+        let all = functions(LISTING);
+        let [one] = &calls(&all)[..] else { panic!("one call is exported") };
+        assert_eq!((one.name.as_str(), one.chain.bytes), ("one", 24 + 16 + 56));
+        assert_eq!(one.chain.names, ["cheukdane_one", "long", "deep"]);
+        assert!(calls_itself(&all, "deep") && !calls_itself(&all, "cheukdane_one"));
+    }
+}

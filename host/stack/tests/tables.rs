@@ -58,28 +58,28 @@ fn the_stored_tables_hold() {
     }
 }
 
-#[test]
-fn a_figure_200_bytes_off_is_refused() {
+/// Each call's figure of each table, one at a time, with something else put for
+/// it: the table must be refused in one line that has these words of the call.
+fn each_changed(put: fn(u64) -> String, words: fn(&str) -> String) {
     for table in TABLES {
         let text = fs::read_to_string(root().join(table)).expect("the table's file");
         for call in CALLS {
             let (before, figure, behind) = around(&text, call);
-            let lower = figure.checked_sub(200).unwrap_or(figure + 200);
-            let said = refused(&format!("{call}-off"), &format!("{before}{lower}{behind}"));
-            assert!(said.contains(&format!("{call} takes")), "{said}");
-            assert_eq!(said.lines().count(), 1, "{said}");
+            let put = put(figure);
+            let name = format!("{call}-{put}");
+            let said = refused(&name, &format!("{before}{put}{behind}"));
+            assert!(said.contains(&words(call)) && said.lines().count() == 1, "{name}: {said}");
         }
     }
 }
 
 #[test]
+fn a_figure_200_bytes_off_is_refused() {
+    let off = |figure: u64| figure.checked_sub(200).unwrap_or(figure + 200).to_string();
+    each_changed(off, |call| format!("{call} takes"));
+}
+
+#[test]
 fn a_call_without_a_figure_is_refused() {
-    for table in TABLES {
-        let text = fs::read_to_string(root().join(table)).expect("the table's file");
-        for call in CALLS {
-            let (before, _, behind) = around(&text, call);
-            let said = refused(&format!("{call}-none"), &format!("{before}{behind}"));
-            assert!(said.contains(&format!("no figure for {call},")), "{said}");
-        }
-    }
+    each_changed(|_| String::new(), |call| format!("no figure for {call},"));
 }
