@@ -11,7 +11,7 @@ NoneOf m (suc k) = NoneOf m k × (m ≡ k → ⊥)
 more : (m k : ℕ) → k ≤ m → (m ≡ k → ⊥) → suc k ≤ m
 more m k h other = omega arith
 
-at-least : (m k : ℕ) → NoneOf m k → k ≤ m
+pub at-least : (m k : ℕ) → NoneOf m k → k ≤ m
 at-least m zero none = omega arith
 at-least m (suc k) none = more m k (at-least m k (none .0)) (none .1)
 

@@ -8,8 +8,8 @@ use Rattle.base.specs.Writing.{put}
 use Rattle.state_parts.specs.declared.state.State.{State}
 use Rattle.state_parts.specs.declared.state.Model.{Model}
 use Rattle.state_parts.specs.declared.state.Model.the-variants.{Off, On}
-use Rattle.state_registers.specs.Reads.{registerTold, readRegisterOf}
-use Rattle.state_registers.specs.declared.reading.ReadAnswer.{ReadAnswer}
+use Rattle.report_registers.specs.Reads.{registerTold, readRegisterOf}
+use Rattle.report_registers.specs.declared.ReadAnswer.{ReadAnswer}
 use Rattle.c_words.specs.Words.{bytesOf}
 use Rattle.c_image.specs.Images.{modelIn, loadedTold}
 use Rattle.c_image.specs.declared.Loaded.{Loaded}

@@ -9,7 +9,7 @@ use Rattle.state_parts.specs.Numbers.{phaseNumber}
 use Rattle.state_parts.specs.declared.state.State.{State}
 use Rattle.state_parts.specs.declared.state.Model.{Model}
 use Rattle.state_parts.specs.declared.state.Model.the-variants.{Off, On}
-use Rattle.state_registers.specs.Reads.{readRegisterOf}
+use Rattle.report_registers.specs.Reads.{readRegisterOf}
 use Rattle.report_state.specs.Report.{reportOf}
 use Rattle.report_state.specs.Stats.{statNumber, statOf}
 use Rattle.c_words.specs.Words.{bytesOf}
@@ -33,7 +33,7 @@ reportReady (accepted (On s)) report = left (answered 0) (put (bytesOf (reportNu
 unfoldable pub reportCallOf : List ℕ → List ℕ → Left Answer
 reportCallOf image report = reportReady (readyOf image (length report) 24) report
 
--- "A register's byte; 6 before a power-on, then 10 for an address that isn't 0x15 to 0x1C."
+-- "A register's byte; 6 before a power-on. Any address answers: 0xFF outside the map."
 abbrev pub byteTold : Told ℕ → Byte
 byteTold (accepted byte) = record { number = 0; byte = byte; place = 0 }
 byteTold (refused number) = record { number = number; byte = 0; place = 0 }

@@ -2,20 +2,19 @@
 ghost use mathlib.Core.Path.{_≡_};
 ghost use Rattle.c_calls.specs.Showing.{reportNumbers, byteTold};
 ghost use Rattle.c_calls.specs.Contracts.{ReportPromise, RegisterPromise};
-ghost use Rattle.state_registers.specs.Reads.{registerTold};
+ghost use Rattle.report_registers.specs.Reads.{registerTold};
 use crate::answer::Answer;
 use crate::answer::Byte;
 use crate::answer::answered;
 use base::refusal;
 use base::volts;
 use c_image::Loaded;
+use report_registers::ReadAnswer;
 use report_state::report;
 use report_state::stat;
 use state_parts::phase;
 use state_parts::state::Model;
 use state_parts::state::State;
-use state_registers::reading;
-use state_registers::reading::ReadAnswer;
 
 // What a report has.
 type Report = [u32; 6];
@@ -90,6 +89,6 @@ pub extern "C" fn cheukdane_register(image: &[u8], address: u32) -> Byte
             byte: 0,
             place: 0,
         },
-        Loaded::Held(model) => byte_of(reading::read_register(model, address)),
+        Loaded::Held(model) => byte_of(report_registers::read_register(model, address)),
     }
 }

@@ -1,5 +1,5 @@
 -- What is promised of images: the types of the theorems that proofs/ proves.
-use Prim.Native.Nat.{ℕ, _<_}
+use Prim.Native.Nat.{ℕ, _≤_, _<_}
 use mathlib.Core.Path.{_≡_}
 use mathlib.Core.List.{List}
 use mathlib.Core.Logic.{_≢_}
@@ -9,14 +9,14 @@ use Rattle.state_parts.specs.declared.state.Model.{Model}
 use Rattle.state_parts.specs.declared.state.Model.the-variants.{Off, On}
 use Rattle.c_words.specs.Words.{wordAt}
 use Rattle.c_words.specs.Promises.{AllWords}
-use Rattle.c_list.specs.Promises.{Stored}
+use Rattle.state_parts.specs.Edges.{allFlags}
 use Rattle.c_list.specs.Numbers.{stateNumbers}
 use Rattle.c_image.specs.Images.{zeros, imageFormat, imageOf, modelIn}
 
--- every number of the model has 32 bits, every stored byte eight and the flags twelve
+-- every number of the model has 32 bits, and the flags twelve
 abbrev pub Storable : Model → Type 0
 Storable Off = Unit {0}
-Storable (On s) = AllWords (stateNumbers s) × Stored s
+Storable (On s) = AllWords (stateNumbers s) × (s .flags ≤ allFlags)
 
 -- load after save is the model
 abbrev pub LoadsBack : Type 0
@@ -28,7 +28,7 @@ OneImage = (bytes : List ℕ) (m : Model) → modelIn bytes ≡ accepted m → b
 
 -- every image has the header's length
 abbrev pub ImageLong : Type 0
-ImageLong = (m : Model) → length (imageOf m) ≡ 216
+ImageLong = (m : Model) → length (imageOf m) ≡ 220
 
 -- two models never have one image
 abbrev pub ImagesDiffer : Type 0
@@ -40,7 +40,7 @@ FormatNotZero = imageFormat ≢ 0
 
 -- "zeroed bytes are the image of a model that is off", in every format
 abbrev pub OffIsZeros : Type 0
-OffIsZeros = imageOf Off ≡ zeros 216
+OffIsZeros = imageOf Off ≡ zeros 220
 
 -- "an image of another format is 5"
 abbrev pub OtherFormat : Type 0

@@ -1,5 +1,5 @@
 -- A state's numbers make the state again.
-use Prim.Native.Nat.{ℕ, _%_, _≤_, _<_}
+use Prim.Native.Nat.{ℕ, _+_, _*_, _/_, _%_, _≤_}
 use mathlib.Core.Path.{_≡_, refl}
 use mathlib.Core.Bool.{Bool, true, false}
 use native.Mathlib.Omega.{arith}
@@ -42,32 +42,28 @@ band-back Hot = refl
 band-back Cool = refl
 band-back Warm = refl
 
-byte-back : (n : ℕ) → n < 256 → n % 256 ≡ n
-byte-back n h = omega arith
+halves-back : (n : ℕ) → n % 0x100000000 + n / 0x100000000 * 0x100000000 ≡ n
+halves-back n = omega arith
 
 pub made-again : MadeAgain
 unfolding stateFrom stateNumbers settingNumbers
 made-again s h =
-    let g = s .registers in
+    let w = s .registers .words in
     rw (
-      byte-back (g .r15) (h .r15),
-      byte-back (g .r16) (h .r16),
-      byte-back (g .r17) (h .r17),
-      byte-back (g .r18) (h .r18),
-      byte-back (g .r19) (h .r19),
-      byte-back (g .r1a) (h .r1a),
+      halves-back (w .w0),
+      halves-back (w .w1),
+      halves-back (w .w2),
+      halves-back (w .w3),
+      halves-back (w .w4),
       signs .back (s .sample .ibat),
       phase-back (s .phase),
       band-back (s .band),
-      flags-back (s .flags) (h .flags),
+      flags-back (s .flags) h,
       test-back (s .settings .enchg),
       test-back (s .settings .enterm),
       test-back (s .settings .enhiz),
       test-back (s .settings .enextilim),
       test-back (s .settings .disstat),
-      test-back (g .vchgoverride),
-      test-back (g .celloverride),
-      test-back (g .ichgoverride),
       test-back (s .latches .inputok),
       test-back (s .latches .inputover),
       test-back (s .latches .short),

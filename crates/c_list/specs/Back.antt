@@ -1,5 +1,5 @@
 -- The state that a list of numbers makes. Every list makes one; only a state's own numbers are its image (`Images`).
-use Prim.Native.Nat.{ℕ, suc, _+_, _%_}
+use Prim.Native.Nat.{ℕ, suc, _+_, _*_, _%_}
 use mathlib.Core.Bool.{Bool}
 use mathlib.Core.List.{List, [], _∷_}
 use lib.ListN.{getD}
@@ -30,8 +30,9 @@ number all at i = getD all (at + i) 0
 abbrev test : List ℕ → ℕ → ℕ → Bool
 test all at i = eqb (number all at i) 1
 
-abbrev byte : List ℕ → ℕ → ℕ → ℕ
-byte all at i = number all at i % 256
+-- a number of its two halves
+abbrev whole : ℕ → ℕ → ℕ
+whole low high = low + high * 0x100000000
 
 abbrev pub profileFrom : List ℕ → ℕ → Profile
 profileFrom all at =
@@ -62,9 +63,7 @@ settingsFrom all at =
 abbrev pub registersFrom : List ℕ → ℕ → Registers
 registersFrom all at =
     let n = number all at in
-    let b = byte all at in
-    let t = test all at in
-    record { r15 = b 0; r16 = b 1; r17 = b 2; r18 = b 3; r19 = b 4; r1a = b 5; cells = n 6; vchgoverride = t 7; celloverride = t 8; ichgoverride = t 9 }
+    record { words = record { w0 = whole (n 0) (n 1); w1 = whole (n 2) (n 3); w2 = whole (n 4) (n 5); w3 = whole (n 6) (n 7); w4 = whole (n 8) (n 9) }; cells = n 10 }
 
 abbrev pub latchesFrom : List ℕ → ℕ → Latches
 latchesFrom all at =

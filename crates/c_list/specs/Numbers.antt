@@ -1,5 +1,5 @@
 -- The numbers of a state: one list, part after part. The header: "The state's numbers follow, from these words on."
-use Prim.Native.Nat.{ℕ}
+use Prim.Native.Nat.{ℕ, _/_, _%_}
 use mathlib.Core.Path.{_≡_}
 use mathlib.Core.List.{List, [], _∷_, _++_}
 use lib.ListN.{length, drop}
@@ -25,10 +25,18 @@ profileNumbers p = p .cell ∷ p .vchg ∷ p .ichg ∷ p .ohms ∷ p .stamp ∷ 
 abbrev pub settingsNumbers : Settings → List ℕ
 settingsNumbers s = drop 1 (settingNumbers s)
 
--- "the bytes 0x15 to 0x1A; CELL_PIN; the VCHG, CELL and ICHG overrides"
+-- "the stored fields of 0x00 to 0x27, four addresses to a word; CELL_PIN"
+abbrev pub lowHalf : ℕ → ℕ
+lowHalf n = n % 0x100000000
+
+abbrev pub highHalf : ℕ → ℕ
+highHalf n = n / 0x100000000
+
 abbrev pub registersNumbers : Registers → List ℕ
 registersNumbers g =
-    g .r15 ∷ g .r16 ∷ g .r17 ∷ g .r18 ∷ g .r19 ∷ g .r1a ∷ g .cells ∷ bitOf (g .vchgoverride) ∷ bitOf (g .celloverride) ∷ bitOf (g .ichgoverride) ∷ []
+    let w = g .words in
+    lowHalf (w .w0) ∷ highHalf (w .w0) ∷ lowHalf (w .w1) ∷ highHalf (w .w1) ∷ lowHalf (w .w2) ∷ highHalf (w .w2) ∷ lowHalf (w .w3) ∷ highHalf (w .w3)
+    ∷ lowHalf (w .w4) ∷ highHalf (w .w4) ∷ g .cells ∷ []
 
 -- "VIN ok, VIN over, short, low, battery over"
 abbrev pub latchesNumbers : Latches → List ℕ

@@ -8,7 +8,7 @@ abbrev settingsCount : ℕ
 settingsCount = 14
 
 abbrev registersCount : ℕ
-registersCount = 10
+registersCount = 11
 
 abbrev latchesCount : ℕ
 latchesCount = 5

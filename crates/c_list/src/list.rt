@@ -24,7 +24,7 @@ use state_parts::state::State;
 ghost use mathlib.Core.Path.{_≡_};
 ghost use lib.Seq.{sets};
 ghost use Rattle.c_list.specs.Places.{profilePlace, settingsPlace, registersPlace, latchesPlace, cyclePlace, samplePlace, phasePlace};
-ghost use Rattle.c_list.specs.Numbers.{profileNumbers, settingsNumbers, registersNumbers, latchesNumbers, cycleNumbers, sampleNumbers, judgedNumbers, stateNumbers};
+ghost use Rattle.c_list.specs.Numbers.{profileNumbers, settingsNumbers, lowHalf, highHalf, registersNumbers, latchesNumbers, cycleNumbers, sampleNumbers, judgedNumbers, stateNumbers};
 
 // A state's numbers.
 pub type Numbers = [u32; COUNT];
@@ -69,20 +69,39 @@ fn with_settings(before: Numbers, s: Settings) -> Numbers
     all
 }
 
+// The two halves of a word.
+fn low(x: u64) -> u32
+    ensures { λ r. ⌜ r ≡ lowHalf x ⌝ }
+{
+    (x % 0x100000000) as u32
+}
+
+fn high(x: u64) -> u32
+    ensures { λ r. ⌜ r ≡ highHalf x ⌝ }
+{
+    (x / 0x100000000) as u32
+}
+
 fn with_registers(before: Numbers, g: Registers) -> Numbers
     ensures { λ r. ⌜ r ≡ sets before registersPlace (registersNumbers g) ⌝ }
 {
+    let w0 = g.words.w0;
+    let w1 = g.words.w1;
+    let w2 = g.words.w2;
+    let w3 = g.words.w3;
+    let w4 = g.words.w4;
     let mut all = before;
-    all[REGISTERS] = g.r15 as u32;
-    all[REGISTERS + 1] = g.r16 as u32;
-    all[REGISTERS + 2] = g.r17 as u32;
-    all[REGISTERS + 3] = g.r18 as u32;
-    all[REGISTERS + 4] = g.r19 as u32;
-    all[REGISTERS + 5] = g.r1a as u32;
-    all[REGISTERS + 6] = g.cells;
-    all[REGISTERS + 7] = bit(g.vchgoverride);
-    all[REGISTERS + 8] = bit(g.celloverride);
-    all[REGISTERS + 9] = bit(g.ichgoverride);
+    all[REGISTERS] = low(w0);
+    all[REGISTERS + 1] = high(w0);
+    all[REGISTERS + 2] = low(w1);
+    all[REGISTERS + 3] = high(w1);
+    all[REGISTERS + 4] = low(w2);
+    all[REGISTERS + 5] = high(w2);
+    all[REGISTERS + 6] = low(w3);
+    all[REGISTERS + 7] = high(w3);
+    all[REGISTERS + 8] = low(w4);
+    all[REGISTERS + 9] = high(w4);
+    all[REGISTERS + 10] = g.cells;
     all
 }
 

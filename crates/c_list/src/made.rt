@@ -21,6 +21,8 @@ use state_parts::sample::Sample;
 use state_parts::settings::Settings;
 use state_parts::state::State;
 use state_parts::watchdog::Watchdog;
+use state_parts::words::Words;
+ghost use Prim.Native.Nat.{_+_, _*_};
 ghost use mathlib.Core.Path.{_≡_};
 ghost use Rattle.c_list.specs.Places.{profilePlace, settingsPlace, registersPlace, latchesPlace, cyclePlace, samplePlace};
 ghost use Rattle.c_list.specs.Back.{profileFrom, settingsFrom, registersFrom, latchesFrom, cycleFrom, sampleFrom, phaseFrom, bandFrom, stateFrom};
@@ -65,20 +67,26 @@ fn settings(all: Numbers) -> Settings
     }
 }
 
+// A word of its two halves.
+fn whole(low: u32, high: u32) -> u64
+    ensures { λ r. ⌜ r ≡ low + high * 0x100000000 ⌝ }
+{
+    (low as u64) + (high as u64) * 0x100000000
+}
+
 fn registers(all: Numbers) -> Registers
     ensures { λ r. ⌜ r ≡ registersFrom all registersPlace ⌝ }
 {
+    let words = Words {
+        w0: whole(all[REGISTERS], all[REGISTERS + 1]),
+        w1: whole(all[REGISTERS + 2], all[REGISTERS + 3]),
+        w2: whole(all[REGISTERS + 4], all[REGISTERS + 5]),
+        w3: whole(all[REGISTERS + 6], all[REGISTERS + 7]),
+        w4: whole(all[REGISTERS + 8], all[REGISTERS + 9]),
+    };
     Registers {
-        r15: (all[REGISTERS] % 256) as u8,
-        r16: (all[REGISTERS + 1] % 256) as u8,
-        r17: (all[REGISTERS + 2] % 256) as u8,
-        r18: (all[REGISTERS + 3] % 256) as u8,
-        r19: (all[REGISTERS + 4] % 256) as u8,
-        r1a: (all[REGISTERS + 5] % 256) as u8,
-        cells: all[REGISTERS + 6],
-        vchgoverride: all[REGISTERS + 7] == 1,
-        celloverride: all[REGISTERS + 8] == 1,
-        ichgoverride: all[REGISTERS + 9] == 1,
+        words: words,
+        cells: all[REGISTERS + 10],
     }
 }
 

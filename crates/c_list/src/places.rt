@@ -3,7 +3,7 @@ pub(crate) const SETTINGS: usize = 10;
 
 pub(crate) const REGISTERS: usize = SETTINGS + 14;
 
-pub(crate) const LATCHES: usize = REGISTERS + 10;
+pub(crate) const LATCHES: usize = REGISTERS + 11;
 
 pub(crate) const CYCLE: usize = LATCHES + 5;
 

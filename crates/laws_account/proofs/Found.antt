@@ -13,10 +13,10 @@ use Rattle.state_parts.specs.declared.settings.Settings.{Settings}
 use Rattle.state_parts.specs.declared.state.State.{State}
 use Rattle.state_parts.specs.declared.watchdog.Watchdog.{Watchdog}
 use Rattle.settle_permission.specs.Bits.{regulatedOf}
-use Rattle.state_fields.specs.Rows.{digitOf, cellPin}
+use Rattle.state_table.specs.Rows.{digitOf, cellPin}
 use Rattle.state_settings.specs.Numbered.{storeOf}
 use Rattle.step_flags.specs.Expiry.{expiredOf, expiresOf}
-use Rattle.state_registers.specs.Writes.{writtenTo}
+use Rattle.state_registers.specs.Writes.{recounted, writtenTo}
 use Rattle.state_registers.specs.Resets.{resetOf}
 use Rattle.step_event.specs.Clock as clock
 use Rattle.step_event.specs.Clock.{timesOf, countedOf, clearedIf, observedOf}
@@ -25,7 +25,7 @@ use Rattle.step_kinds.specs.Plain.{servicedOf}
 use Rattle.laws_account.specs.History.{Run, _▸_}
 use Rattle.step_turns.specs.declared.later.Later.{Later}
 use Rattle.step_turns.specs.declared.later.Later.the-variants.{Set, Write, TakeFlags, Observe, Service, Reset}
-use Rattle.laws_account.specs.Held.{profileOf, sampleOf, regulated, elapsed, wasReset, wasServed, expired, overridden, takes, cellsOf, byteOf}
+use Rattle.laws_account.specs.Held.{profileOf, sampleOf, regulated, elapsed, wasReset, wasServed, expired, overridden, takes, cellsOf, fieldAt}
 use Rattle.laws_account.specs.Valued.{givenBy, settingOf}
 use Rattle.laws_account.specs.Judged.{bandAt}
 use Rattle.laws_account.specs.Cycles.{Stage, trickle, precharge, fast, limitOf, heldIn, unitsAfter, gave, isDone, wasDone, timeIn, timeFound, phaseAt}
@@ -33,7 +33,7 @@ use Rattle.laws_account.specs.States.{numbered, settingsAt, registersAt,
 use Rattle.laws_account.proofs.Choices.{added}
 use Rattle.laws_account.proofs.Dogs.{expired-is, counted-is, served-is, waits}
 use Rattle.laws_account.proofs.Values.{store-is, count-is, start-is}
-use Rattle.laws_account.proofs.Bytes.{written-bytes, cleared-bytes, reset-bytes}
+use Rattle.laws_account.proofs.Fields.{count-taken, written-fields, cleared-fields, reset-fields}
 
 -- what each kind of event writes
 abbrev pub writtenBy : State → Later → State
@@ -125,17 +125,17 @@ unfolding profileOf expiresOf
 expires-is r x = λ i. not (expired-is r i) && (ap (expiredOf (profileOf r)) (counted-is r x) ∙ expired-is (r ▸ Observe x)) i
 
 pub written-is : (r : Run) (e : Later) → writtenBy (stateOf r) e ≡ found r e
-unfolding found stateBy settingsAt registersAt byteOf cellsOf overridden sampleOf writtenTo observedOf resetOf wasReset wasServed elapsed timeFound wasDone
+unfolding found stateBy settingsAt registersAt fieldAt cellsOf profileOf sampleOf writtenTo observedOf resetOf wasReset wasServed elapsed timeFound wasDone
 written-is r (Set n v) =
     λ i. changed r (store-is (λ k. settingOf k r) n v i) (registersAt r) (cycle-kept r (Set n v) refl refl i) (waits r (Set n v) refl refl i) (sampleOf r)
 written-is r (Write a b) =
-    λ i. changed r (count-is (λ k. settingOf k r) (profileOf r) (digitOf cellPin b) (takes r (cellsOf r) a b) i) (written-bytes r (stateOf r) refl a b i)
+    λ i. changed r ((ap (λ t. pick t (recounted (profileOf r) (digitOf cellPin b) (settingsAt r)) (settingsAt r)) (count-taken r a b) ∙ count-is (λ k. settingOf k r) (profileOf r) (digitOf cellPin b) (takes r (cellsOf r) a b)) i) (written-fields r a b i)
     (cycle-kept r (Write a b) refl refl i) (waits r (Write a b) refl refl i) (sampleOf r)
 written-is r TakeFlags =
     λ i. changed r (settingsAt r) (registersAt r) (cycle-kept r TakeFlags refl refl i) (waits r TakeFlags refl refl i) (sampleOf r)
 written-is r (Observe x) =
-    λ i. changed r (settingsAt r) ((ap (λ b. clearedIf b (registersAt r)) (expires-is r x) ∙ cleared-bytes r x) i) (cycle-timed r x i) (counted-is r x i) x
+    λ i. changed r (settingsAt r) ((ap (λ b. clearedIf b (registersAt r)) (expires-is r x) ∙ cleared-fields r x) i) (cycle-timed r x i) (counted-is r x i) x
 written-is r Service =
     λ i. changed r (settingsAt r) (registersAt r) (cycle-kept r Service refl refl i) (served-is r Service refl i) (sampleOf r)
 written-is r Reset =
-    λ i. changed r (start-is (profileOf r) (cellsOf r) i) (reset-bytes r i) (cycleFound (r ▸ Reset)) (served-is r Reset refl i) (sampleOf r)
+    λ i. changed r (start-is (profileOf r) (cellsOf r) i) (reset-fields r i) (cycleFound (r ▸ Reset)) (served-is r Reset refl i) (sampleOf r)

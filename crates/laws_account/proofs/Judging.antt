@@ -1,29 +1,32 @@
 -- What settling judges of what it finds after an event: settings, comparators, band and tests are the account's.
 use Prim.Native.Nat.{_-_}
 use mathlib.Core.Path.{_≡_, refl, ap, _∙_}
-use mathlib.Core.Bool.{Bool, true, false, not, _&&_, and-false}
+use mathlib.Core.Bool.{Bool, true, false, not, _&&_, _||_, and-false}
 use lib.Dec.{leb, eqb}
 use borrow.Author.Tests.{eqb-true}
-use Rattle.base.specs.Units.{inPack, lessOf, below, belowShare}
+use Rattle.base.specs.Pick.{pick}
+use Rattle.base.specs.Units.{inPack, lowerOf, lessOf, below, belowShare}
+use Rattle.base.specs.Volts.{packOf}
+use Rattle.state_parts.specs.Pins.{vchgOf}
 use Rattle.state_parts.specs.Numbers.{phaseNumber}
 use Rattle.state_parts.specs.declared.band.Band.{Band}
 use Rattle.state_parts.specs.declared.band.Band.the-variants.{Normal, Cold, Cool, Warm, Hot}
 use Rattle.state_parts.specs.declared.phase.Phase.{Phase}
 use Rattle.state_parts.specs.declared.phase.Phase.the-variants.{Idle, Trickle, Precharge, Fast, Taper, Done, Suspended, Fault}
 use Rattle.state_parts.specs.declared.state.State.{State}
-use Rattle.settle_bands.specs.Thresholds.{bandOf}
+use Rattle.settle_bands.specs.Thresholds.{th1At, th2At, th3At, th5At, firstBand, bandOf}
 use Rattle.settle_bands.specs.Effect as effect
 use Rattle.settle_bands.specs.Effect.{suspendsOf}
 use Rattle.state_fields.specs.Held.{fieldOf}
-use Rattle.state_fields.specs.Rows.{jeitaIsetc, jeitaVset}
+use Rattle.state_table.specs.Rows.{jeitaIsetc, jeitaVset}
 use Rattle.laws_account.proofs.Sharing.{cut-is}
 use Rattle.settle_levels.specs.Clamps.{faultOf, packClampOf, baseOf}
-use Rattle.settle_levels.specs.Comparators.{shortOf, lowOf, packOverOf, latchesOf}
+use Rattle.settle_levels.specs.Comparators.{goodOf, inputOkOf, inputOverOf, shortOf, lowOf, packOverOf, latchesOf}
 use Rattle.settle_levels.specs.Voltage.{chargeVoltageOf, taperOf, belowRecharge}
-use Rattle.settle_permission.specs.Bits.{regulatedOf}
+use Rattle.settle_permission.specs.Bits.{ceHigh, regulatedOf}
 use Rattle.settle_permission.specs.Ending.{endingOf}
 use Rattle.settle_permission.specs.Limits.{reachedOf}
-use Rattle.settle_permission.specs.Permission.{permittedOf}
+use Rattle.settle_permission.specs.Permission.{hizOf, permittedOf}
 use Rattle.settle_phases.specs.Order.{isTaper}
 use Rattle.settle_phases.specs.declared.tests.Tests.{Tests}
 use Rattle.settle_all.specs.Gather.{testsOf}
@@ -37,6 +40,7 @@ use Rattle.laws_account.specs.Cycles.{isDone, wasDone, limitFound, fault
 use Rattle.laws_account.specs.States.{settingsAt, registersAt, latchesAt, watchdogAt}
 use Rattle.laws_account.proofs.Choices.{held-since, forced-since, barred-since}
 use Rattle.laws_account.proofs.Values.{force-is}
+use Rattle.laws_account.proofs.Fields.{th1, th2, th3, th5, en-ts, en-jeita, isetc, vset, vchg-lifted, ichg-lifted}
 use Rattle.laws_account.proofs.Found.{changed, givenAt, cycleFound, found}
 
 -- the paper's number of phase 4
@@ -52,16 +56,15 @@ taper-four Fault = refl
 
 -- what a band does, by the registers of a run
 suspends-in : (b : Band) (m : Run) → effect.suspendedIn b (eqb (fieldOf jeitaIsetc (registersAt m)) 0) (eqb (fieldOf jeitaVset (registersAt m)) 0) ≡ suspendedIn b m
-unfolding registersAt
 suspends-in Normal m = refl
 suspends-in Cold m = refl
-suspends-in Cool m = refl
-suspends-in Warm m = refl
+suspends-in Cool m = ap (λ n. eqb n 0) (isetc m)
+suspends-in Warm m = ap (λ n. eqb n 0) (vset m)
 suspends-in Hot m = refl
 
 pub base-is : (m : Run) → baseOf (profileOf m) (settingsAt m) (registersAt m) ≡ baseAt m
 unfolding baseOf packClampOf baseAt packClamp settingsAt registersAt
-base-is m = refl
+base-is m = ap (λ n. lowerOf (packOf (settingOf 1 m)) (inPack (pick (eqb n 1) (record { 0 = profileOf m .ceiling }) (vchgOf (profileOf m))) (cellsOf m))) (vchg-lifted m)
 
 pub voltage-is : (m : Run) → chargeVoltageOf (profileOf m) (settingsAt m) (registersAt m) (bandAt m) ≡ chargeVoltage m
 unfolding chargeVoltageOf chargeVoltage registersAt
@@ -69,7 +72,8 @@ voltage-is m = λ i. lessOf (base-is m i) (inPack (cut-is (bandAt m) m i) (cells
 
 pub fault-is : (m : Run) → faultOf (profileOf m) (registersAt m) ≡ pinFault m
 unfolding faultOf registersAt pinFault
-fault-is m = refl
+fault-is m =
+    λ i. (eqb (cellsOf m) 0 || (eqb (profileOf m .vchg) 0 && not (eqb (vchg-lifted m i) 1))) || (eqb (profileOf m .ichg) 0 && not (eqb (ichg-lifted m i) 1))
 
 -- phase 4 is not done's
 four-not-done : (r : Run) → phaseNumber (phaseAt r) ≡ 4 → isDone phaseAt r ≡ false
@@ -80,6 +84,13 @@ four-not-done (r ▸ e) h = rw h (ap (λ b. b && isDone phaseAt r) (and-false (n
 not-early : (r : Run) (w o : Bool) (t : Bool) → eqb (phaseNumber (phaseAt r)) 4 ≡ t → ((w && isDone phaseAt r) && (o && t)) ≡ false
 not-early r w o true h = rw (four-not-done r (eqb-true (phaseNumber (phaseAt r)) 4 h), and-false w)
 not-early r w o false h = rw (and-false o, and-false (w && isDone phaseAt r))
+
+pub judged-band : (m : Run) → bandOf (profileOf m) (registersAt m) (sampleOf m .ts) ≡ bandAt m
+unfolding bandOf bandAt
+judged-band m =
+    let p = profileOf m in
+    let ts = sampleOf m .ts in
+    λ i. firstBand (eqb (en-ts m i) 0) (leb (th1At p (th1 m i)) ts) (leb ts (th5At p (th5 m i))) (eqb (en-jeita m i) 1 && leb (th2At p (th2 m i)) ts) (eqb (en-jeita m i) 1 && leb ts (th3At p (th3 m i)))
 
 module _ (r : Run) (e : Later) where
   settings-are : storedOf (faultOf (profileOf (r ▸ e)) (registersAt (r ▸ e))) (givenAt r e) ≡ settingsAt (r ▸ e)
@@ -96,9 +107,26 @@ module _ (r : Run) (e : Later) where
   abbrev m : Run
   m = r ▸ e
 
+  -- the comparators by the account's pin fault and base voltage
+  levels-are : latchesOf (profileOf r) (settingsAt (r ▸ e)) (registersAt (r ▸ e)) (sampleOf (r ▸ e)) (latchesAt r) ≡ record {
+    inputok = inputOkOf (profileOf r) (sampleOf m) (latchesAt r .inputok);
+    inputover = inputOverOf (profileOf r) (sampleOf m) (latchesAt r .inputover);
+    short = pinFault m || shortOf (profileOf r) (registersAt m) (sampleOf m) (latchesAt r .short);
+    low = pinFault m || lowOf (profileOf r) (settingsAt m) (baseAt m) (sampleOf m) (latchesAt r .low);
+    packover = not (pinFault m) && packOverOf (profileOf r) (baseAt m) (sampleOf m) (latchesAt r .packover);
+  }
+  unfolding latchesOf profileOf
+  levels-are = λ i. record {
+    inputok = inputOkOf (profileOf r) (sampleOf m) (latchesAt r .inputok);
+    inputover = inputOverOf (profileOf r) (sampleOf m) (latchesAt r .inputover);
+    short = fault-is m i || shortOf (profileOf r) (registersAt m) (sampleOf m) (latchesAt r .short);
+    low = fault-is m i || lowOf (profileOf r) (settingsAt m) (base-is m i) (sampleOf m) (latchesAt r .low);
+    packover = not (fault-is m i) && packOverOf (profileOf r) (base-is m i) (sampleOf m) (latchesAt r .packover);
+  }
+
   pub latches-are : latchesOf (profileOf r) (settingsAt (r ▸ e)) (registersAt (r ▸ e)) (sampleOf (r ▸ e)) (latchesAt r) ≡ latchesAt (r ▸ e)
-  unfolding latchesOf latchesAt inputOk inputOver short low packOver since shortOf lowOf packOverOf baseOf packClampOf faultOf pinFault vbat baseAt packClamp settingsAt registersAt profileOf
-  latches-are = λ i. record {
+  unfolding latchesOf latchesAt inputOk inputOver short low packOver since shortOf lowOf packOverOf vbat settingsAt registersAt profileOf
+  latches-are = levels-are ∙ λ i. record {
     inputok = held-since (leb 2900 (sampleOf m .input)) (leb 2350 (sampleOf m .input)) (inputOk r) i;
     inputover = held-since (leb 36300 (sampleOf m .input)) (leb 34500 (sampleOf m .input)) (inputOver r) i;
     short = forced-since (pinFault m) (below (vbat m) (cellPoint 1850 2000 m)) (below (vbat m) (cellPoint 2150 2200 m)) (short r) i;
@@ -107,8 +135,8 @@ module _ (r : Run) (e : Later) where
   }
 
   pub band-is : bandOf (profileOf r) (registersAt (r ▸ e)) (sampleOf (r ▸ e) .ts) ≡ bandAt (r ▸ e)
-  unfolding bandOf registersAt bandAt profileOf
-  band-is = refl
+  unfolding bandOf bandAt profileOf
+  band-is = judged-band m
 
   -- the tests after the event, as the account has them
   abbrev pub testsAt : Tests
@@ -127,8 +155,8 @@ module _ (r : Run) (e : Later) where
   }
 
   permitted-is : permittedOf (profileOf m) (settingsAt m) (registersAt m) (sampleOf m) (latchesAt m) ≡ permitted m
-  unfolding permittedOf permitted inputGood settingsAt registersAt latchesAt faultOf pinFault
-  permitted-is = refl
+  unfolding permittedOf permitted inputGood settingsAt latchesAt
+  permitted-is = λ i. goodOf (latchesAt m) && not (hizOf (settingsAt m) (sampleOf m)) && settingsAt m .enchg && not (ceHigh (sampleOf m)) && not (fault-is m i)
 
   bad-is : testsOf ready (latchesAt m) (bandAt m) (wasObserved m) .fault ≡ fault phaseAt m
   unfolding testsOf reachedOf fault limitFound latchesAt profileOf

@@ -4,7 +4,7 @@ mod Rule
 pub mod Choices
 mod Dogs
 mod Values
-mod Bytes
+pub mod Fields
 mod Found
 pub mod Sharing
 pub mod Judging

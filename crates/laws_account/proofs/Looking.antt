@@ -1,33 +1,40 @@
 -- STAT and the registers of the account's state are the account's.
-use Prim.Native.Nat.{ℕ, _+_, _*_, _/_, _%_, _≤_, _<_}
+use Prim.Native.Nat.{ℕ, suc, _+_, _-_, _*_, _/_, _%_, _<_}
 use native.Mathlib.Omega.{arith}
-use mathlib.Core.Path.{_≡_, refl, ap, _∙_}
-use mathlib.Core.Bool.{Bool, true, false, _&&_}
-use lib.Dec.{leb}
+use mathlib.Core.Path.{_≡_, refl, ap, subst, _∙_}
+use mathlib.Core.Bool.{Bool, true, _&&_}
+use mathlib.Core.List.{List, [], _∷_}
+use lib.Dec.{leb, eqb}
+use lib.ListN.{length, getD}
 use Rattle.base.specs.Pick.{pick, bitOf}
-use Rattle.base.specs.Told.{accepted, refused}
-use Rattle.base.proofs.Span.{span}
-use Rattle.base.proofs.Tests.{and-iff, leb-iff, eqb-iff}
-use Rattle.state_parts.specs.Numbers.{phaseNumber}
+use Rattle.base.specs.Told.{accepted}
+use Rattle.state_parts.specs.Numbers.{phaseNumber, bandNumber}
 use Rattle.state_parts.specs.Stages.{charging}
 use Rattle.state_parts.specs.declared.phase.Phase.{Phase}
 use Rattle.state_parts.specs.declared.phase.Phase.the-variants.{Idle, Trickle, Precharge, Fast, Taper, Done, Suspended, Fault}
-use Rattle.state_fields.specs.Held.{byte1B, byte1C}
-use Rattle.state_fields.specs.Rows.{fields, fieldsAt, shownOf}
-use Rattle.state_valid.specs.Holds.{stateOk, registersOk}
-use Rattle.state_valid.proofs.Bounds.{profile-bounds, few-cells}
-use Rattle.state_valid.proofs.Wholes.{apart}
-use Rattle.state_registers.specs.Reads.{byteAt, readOf, readRegisterOf}
+use Rattle.state_table.specs.Rows.{Field, fields, fieldsOf, mapSize, over, shifted, isStored}
+use Rattle.state_table.specs.Packed.{noField}
+use Rattle.state_table.specs.declared.Access.{Access}
+use Rattle.state_table.specs.declared.Access.the-variants.{Reserved, Fixed, Status, Flag, Stored, Setting, Mask, Counted, Pin, Acts}
+use Rattle.state_table.proofs.Tested.{long}
+use Rattle.state_fields.specs.Held.{fieldOf}
+use Rattle.state_fields.proofs.Gathers.{nth}
+use Rattle.settle_permission.specs.Bits.{iindpmOf, vindpmOf, thermalOf, shutdownOf}
+use Rattle.settle_permission.specs.Limits.{reachedOf}
+use Rattle.step_flags.specs.Edges.{seenOf}
 use Rattle.report_state.specs.declared.answer.Stat.the-variants.{Low, Blinking, High}
 use Rattle.report_state.specs.Stats.{statOf}
+use Rattle.report_registers.specs.Reads.{chargeStat, statuses, statusOf, codeBy, codeOf, valueBy, upperHalf, byteBy, readOf, readRegisterOf}
 use Rattle.laws_account.specs.History.{Run}
-use Rattle.laws_account.specs.Held.{profileOf, vchg, cell, ichg, overridden, cellsOf}
+use Rattle.laws_account.specs.Held.{profileOf, sampleOf, fieldAt}
 use Rattle.laws_account.specs.Valued.{enabled}
-use Rattle.laws_account.specs.Cycles.{phaseAt}
+use Rattle.laws_account.specs.Judged.{inputGood, inputOver, packOver, bandAt}
+use Rattle.laws_account.specs.Cycles.{numberAt, limitReached, phaseAt}
 use Rattle.laws_account.specs.Refused.{none, some}
-use Rattle.laws_account.specs.States.{settingsAt, registersAt, stateBy, stateOf}
-use Rattle.laws_account.specs.Looked.{statAt, shownAt, registerAt, StatIsModel, RegisterIsModel}
-use Rattle.laws_account.proofs.Agreeing.{fine}
+use Rattle.laws_account.specs.States.{settingsAt, registersAt, latchesAt, cycleAt, stateBy, stateOf}
+use Rattle.laws_account.specs.Looked.{statAt, statusAt, codeIn, registerAt, StatIsModel, RegisterIsModel}
+use Rattle.laws_account.proofs.Dogs.{expired-is}
+use Rattle.laws_account.proofs.Fields.{field-is}
 
 -- by the phase
 stat-in : (q : Phase)
@@ -46,63 +53,61 @@ pub stat-is-model : StatIsModel
 unfolding statOf statAt stateBy settingsAt
 stat-is-model r = ap (λ t. pick (enabled 13 r) High t) (stat-in (phaseAt r))
 
-bit-most : (b : Bool) → bitOf b ≤ 1
-bit-most true = omega arith
-bit-most false = omega arith
+-- the statuses are what flags are edges of
+status-is : (r : Run) (number : ℕ) → statusOf (seenOf (stateOf r)) number ≡ statusAt r number
+unfolding statusOf statuses statusAt seenOf stateBy latchesAt cycleAt reachedOf limitReached inputGood
+status-is r number =
+    λ i. getD (
+    chargeStat (numberAt phaseAt r)
+    ∷ bitOf (expired-is r i)
+    ∷ bitOf (thermalOf (sampleOf r))
+    ∷ bitOf (vindpmOf (sampleOf r))
+    ∷ bitOf (iindpmOf (sampleOf r))
+    ∷ bitOf (inputGood r)
+    ∷ bandNumber (bandAt r)
+    ∷ bitOf (shutdownOf (sampleOf r))
+    ∷ bitOf (limitReached phaseAt r)
+    ∷ bitOf (packOver r) * 2
+    ∷ bitOf (inputOver r)
+    ∷ [])
+    (number % 11) 0
 
--- a byte's fields put together, and a byte of parts that fit their fields
-digits-1b : (n : ℕ) → n < 256 → n / 128 % 2 * 128 + (n / 64 % 2 * 64 + (n / 8 % 8 * 8 + (n / 1 % 8 * 1 + 0))) ≡ n
-digits-1b n h = omega (arith, h)
+-- a field of the table reads as the account says
+code-is : (r : Run) (i : ℕ) → i < 147 → codeOf (stateOf r) (nth i) ≡ codeIn (nth i .access) r (nth i)
+unfolding codeOf stateBy settingsAt registersAt
+code-is r i h = by (nth i .access) (field-is r i h (nth i) refl)
+  where
+    by : (a : Access) → (isStored a ≡ true → fieldOf (nth i) (registersAt r) ≡ fieldAt (nth i) r) → codeBy a (stateOf r) (nth i) ≡ codeIn a r (nth i)
+    by Reserved kept = refl
+    by (Fixed value) kept = refl
+    by (Status number) kept = status-is r number
+    by (Flag first count) kept = refl
+    by Stored kept = kept refl
+    by (Setting number step) kept = refl
+    by (Mask first count) kept = refl
+    by Counted kept = refl
+    by (Pin number) kept = refl
+    by (Acts number) kept = refl
 
-digits-1c : (n : ℕ) → n < 16 → 0 + (n / 8 % 2 * 8 + (n / 1 % 8 * 1 + 0)) ≡ n
-digits-1c n h = omega (arith, h)
+-- codes that agree in every field of the table make one value
+sums-same : (on : Field → Bool) (one other : Field → ℕ) (fs : List Field) → ((i : ℕ) → i < length fs → one (getD fs i noField) ≡ other (getD fs i noField)) → (n : ℕ)
+    → over on (λ (m : ℕ) (f : Field). m + shifted f (one f)) fs n ≡ over on (λ (m : ℕ) (f : Field). m + shifted f (other f)) fs n
+sums-same on one other [] same n = refl
+sums-same on one other (f ∷ fs) same n =
+    ap (λ (code : ℕ). over on (λ (m : ℕ) (g : Field). m + shifted g (one g)) fs (pick (on f) (n + shifted f code) n)) (same 0 (omega arith))
+    ∙ sums-same on one other fs (λ i h. same (suc i) (omega arith)) (pick (on f) (n + shifted f (other f)) n)
 
-parts-1b : (a b c d : ℕ) → a ≤ 1 → b ≤ 1 → c ≤ 7 → d ≤ 7 → a % 2 * 128 + b % 2 * 64 + d % 8 * 1 + c % 8 * 8 ≡ a * 128 + b * 64 + c * 8 + d
-parts-1b a b c d h i j k = omega (arith, h, i, j, k)
+module _ (r : Run) where
+  value-is : (address : ℕ) → valueBy (profileOf r) (codeOf (stateOf r)) address ≡ valueBy (profileOf r) (λ (f : Field). codeIn (f .access) r f) address
+  unfolding valueBy fieldsOf
+  value-is address =
+      sums-same (λ (f : Field). eqb (f .address) address) (codeOf (stateOf r)) (λ (f : Field). codeIn (f .access) r f) fields (λ i h. code-is r i (subst (λ (n : ℕ). i < n) long h)) 0
 
-parts-1c : (a c : ℕ) → a ≤ 1 → c ≤ 7 → a % 2 * 8 + c % 8 * 1 ≡ a * 8 + c
-parts-1c a c h i = omega (arith, h, i)
-
-module _ (r : Run) (ok : stateOk (stateOf r) ≡ true) where
-  abbrev shownBy : ℕ → ℕ
-  shownBy address = shownOf (profileOf r) address (byteAt (stateOf r) address)
-
-  -- the two registers that hold pin codes
-  shown-1b : shownBy 0x1B ≡ shownAt 0x1B r
-  unfolding shownOf fieldsAt fields byteAt stateBy registersAt shownAt
-  shown-1b =
-      let p = profile-bounds (profileOf r) (apart (stateOf r) ok .profile) in
-      let few = few-cells (profileOf r) (registersAt r) (apart (stateOf r) ok .registers) in
-      let plain = parts-1b (bitOf (overridden vchg r)) (bitOf (overridden cell r)) (profileOf r .vchg) (cellsOf r) (bit-most (overridden vchg r)) (bit-most (overridden cell r)) (p .vchg) few in
-      digits-1b (byte1B (profileOf r) (registersAt r)) (omega (arith, plain, p .vchg, few, bit-most (overridden vchg r), bit-most (overridden cell r))) ∙ plain
-
-  shown-1c : shownBy 0x1C ≡ shownAt 0x1C r
-  unfolding shownOf fieldsAt fields byteAt stateBy registersAt shownAt
-  shown-1c =
-      let p = profile-bounds (profileOf r) (apart (stateOf r) ok .profile) in
-      let plain = parts-1c (bitOf (overridden ichg r)) (profileOf r .ichg) (bit-most (overridden ichg r)) (p .ichg) in
-      digits-1c (byte1C (profileOf r) (registersAt r)) (omega (arith, plain, p .ichg, bit-most (overridden ichg r))) ∙ plain
-
-  -- the others hold what is shown
-  shown-stored : (shownBy 0x15 ≡ shownAt 0x15 r) × (shownBy 0x16 ≡ shownAt 0x16 r) × (shownBy 0x17 ≡ shownAt 0x17 r) × (shownBy 0x18 ≡ shownAt 0x18 r) × (shownBy 0x19 ≡ shownAt 0x19 r) × (shownBy 0x1A ≡ shownAt 0x1A r)
-  unfolding byteAt stateBy registersAt shownAt registersOk
-  shown-stored =
-      let k = simp (and-iff, eqb-iff) at (apart (stateOf r) ok .registers) in
-      (k .0 .0 .0 .0 .0 .0 .0, k .0 .0 .0 .0 .0 .0 .1, k .0 .0 .0 .0 .0 .1, k .0 .0 .0 .0 .1, k .0 .0 .0 .1, k .0 .0 .1)
-
-  shown-is : (address : ℕ) → 0x15 ≤ address → address ≤ 0x1C → shownBy address ≡ shownAt address r
-  shown-is address low high =
-      let k = shown-stored in
-      span (λ a. shownBy a ≡ shownAt a r) 0x15 8 address (k .0, (k .1, (k .2, (k .3, (k .4, (k .5, (shown-1b, (shown-1c, tt)))))))) low (omega arith)
-
-  read-is : (address : ℕ) (known : Bool) → (leb 0x15 address && leb address 0x1C) ≡ known
-      → pick known (accepted (shownBy address)) (refused 10) ≡ pick known (accepted (shownAt address r)) (refused 10)
-  read-is address true e =
-      let both = simp (and-iff, leb-iff) at e in
-      ap (λ (b : ℕ). accepted b) (shown-is address (both .0) (both .1))
-  read-is address false e = refl
+  byte-is : (address : ℕ) → byteBy (profileOf r) (codeOf (stateOf r)) address ≡ byteBy (profileOf r) (λ (f : Field). codeIn (f .access) r f) address
+  unfolding byteBy
+  byte-is address = λ i. pick (leb mapSize address) 0xFF (pick (upperHalf (profileOf r) address) (value-is (address - 1) i / 256 % 256) (value-is address i % 256))
 
 pub register-is-model : RegisterIsModel
 unfolding readRegisterOf readOf registerAt stateBy
 register-is-model none l address = refl
-register-is-model (some r) l address = read-is r (fine r l) address (leb 0x15 address && leb address 0x1C) refl
+register-is-model (some r) l address = ap (λ (b : ℕ). accepted b) (byte-is r address)

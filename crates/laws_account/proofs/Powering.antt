@@ -12,8 +12,9 @@ use Rattle.state_parts.specs.declared.state.State.{State}
 use Rattle.state_start.specs.Values.{startSettings, startRegisters, startLatches, startCycle, startWatchdog, startSample, startState}
 use Rattle.state_valid.specs.Holds.{profileOk}
 use Rattle.settle_bands.specs.Thresholds.{bandOf}
-use Rattle.settle_levels.specs.Clamps.{faultOf, packClampOf, baseOf}
-use Rattle.settle_levels.specs.Comparators.{shortOf, lowOf, packOverOf, latchesOf}
+use Rattle.state_fields.specs.Held.{startWords}
+use Rattle.settle_levels.specs.Clamps.{faultOf}
+use Rattle.settle_levels.specs.Comparators.{inputOkOf, inputOverOf, shortOf, lowOf, packOverOf, latchesOf}
 use Rattle.settle_permission.specs.Permission.{permittedOf}
 use Rattle.settle_phases.specs.Cycles.{cycleOf}
 use Rattle.settle_phases.specs.Order.{judgedOf, clearsOf, endsOf, phaseOf}
@@ -21,15 +22,15 @@ use Rattle.settle_all.specs.Gather.{testsOf}
 use Rattle.settle_all.specs.Settle.{storedOf, forcedOf, settledOf, settleOf}
 use Rattle.state_parts.specs.With.{withFlags}
 use Rattle.laws_account.specs.History.{Run, powered, since, sumAfter, count}
-use Rattle.laws_account.specs.Held.{profileOf, sampleOf, unserved, overridden, cellsOf, byteOf}
+use Rattle.laws_account.specs.Held.{profileOf, sampleOf, unserved, cellsOf, fieldAt}
 use Rattle.laws_account.specs.Valued.{pinFault, startValue, settingOf}
-use Rattle.laws_account.specs.Judged.{vbat, packClamp, baseAt, lowEnds, inputOk, inputOver, inputGood, cellPoint, short, low, packOver, bandAt, permitted}
+use Rattle.laws_account.specs.Judged.{vbat, baseAt, lowEnds, inputOk, inputOver, inputGood, cellPoint, short, low, packOver, bandAt, permitted}
 use Rattle.laws_account.specs.Cycles.{isDone, timeIn, phaseBy, phasesOf, phaseAt}
 use Rattle.laws_account.specs.Flagged.{wasTaken, flagged}
 use Rattle.laws_account.specs.States.{settingsAt, registersAt, latchesAt, watchdogAt, cycleAt, flagsAt, stateBy, stateOf}
 use Rattle.laws_account.proofs.Choices.{zero-low}
 use Rattle.laws_account.proofs.Values.{start-is, force-is}
-use Rattle.laws_account.proofs.Judging.{fault-is}
+use Rattle.laws_account.proofs.Judging.{fault-is, base-is, judged-band}
 use Rattle.laws_account.proofs.Settling.{flaggedWith}
 use Rattle.laws_account.proofs.Starting.{below-short, below-any}
 
@@ -47,7 +48,7 @@ module _ (p : Profile) where
   on = powered p
 
   registers-start : startRegisters p ≡ registersAt (powered p)
-  unfolding registersAt byteOf cellsOf overridden
+  unfolding registersAt fieldAt cellsOf startWords profileOf
   registers-start = refl
 
   settings-start : storedOf (faultOf p (startRegisters p)) (startSettings p (p .cell)) ≡ settingsAt (powered p)
@@ -104,9 +105,26 @@ module _ (p : Profile) where
     over-start true stays h = refl
     over-start false stays h = rw (below-any p ok h 1040 (omega arith))
 
+    -- the comparators by the account's pin fault and base voltage
+    levels-start : latchesOf p (settingsAt on) (registersAt on) (startSample p) startLatches ≡ record {
+      inputok = inputOkOf p (startSample p) false;
+      inputover = inputOverOf p (startSample p) false;
+      short = pinFault on || shortOf p (registersAt on) (startSample p) true;
+      low = pinFault on || lowOf p (settingsAt on) (baseAt on) (startSample p) true;
+      packover = not (pinFault on) && packOverOf p (baseAt on) (startSample p) false;
+    }
+    unfolding latchesOf profileOf
+    levels-start = λ i. record {
+      inputok = inputOkOf p (startSample p) false;
+      inputover = inputOverOf p (startSample p) false;
+      short = fault-is on i || shortOf p (registersAt on) (startSample p) true;
+      low = fault-is on i || lowOf p (settingsAt on) (base-is on i) (startSample p) true;
+      packover = not (fault-is on i) && packOverOf p (base-is on i) (startSample p) false;
+    }
+
     latches-start : latchesOf p (settingsAt on) (registersAt on) (startSample p) startLatches ≡ latchesAt on
-    unfolding latchesOf latchesAt inputOk inputOver short low packOver since shortOf lowOf packOverOf baseOf packClampOf faultOf pinFault vbat baseAt packClamp settingsAt registersAt profileOf sampleOf cellsOf
-    latches-start = λ i. record {
+    unfolding latchesOf latchesAt inputOk inputOver short low packOver since shortOf lowOf packOverOf vbat settingsAt registersAt profileOf sampleOf cellsOf
+    latches-start = levels-start ∙ λ i. record {
       inputok = false;
       inputover = false;
       short = short-start (pinFault on) (below (vbat on) (cellPoint 2150 2200 on)) refl i;
@@ -144,8 +162,8 @@ module _ (p : Profile) where
         settledOf f k b (testsOf f k b false)
 
     band-start : bandOf p (registersAt on) 55000 ≡ bandAt on
-    unfolding bandOf registersAt bandAt sampleOf
-    band-start = refl
+    unfolding profileOf sampleOf
+    band-start = judged-band on
 
     settle-start : settleOf (startState p) false ≡ flaggedWith on noFlags
     unfolding settleOf

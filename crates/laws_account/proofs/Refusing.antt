@@ -7,7 +7,7 @@ use lib.Dec.{leb, ltb, eqb}
 use borrow.Author.Tests.{leb-true, leb-false, lt-ltb, le-ltb}
 use Rattle.base.specs.Pick.{pick}
 use Rattle.base.proofs.Span.{span}
-use Rattle.state_fields.specs.Rows.{frequencyOk}
+use Rattle.state_table.specs.Rows.{frequencyOk, fsw, digitOf}
 use Rattle.state_parts.specs.declared.profile.Profile.{Profile}
 use Rattle.state_settings.specs.Ranges.{rangeOf, knownSetting, mayHold}
 use Rattle.laws_account.specs.Refused.{badValue, badFrequency}
@@ -40,7 +40,7 @@ set-refused p number value n k =
     ∙ ap (λ b. pick (not known) n (pick b k 0)) (not-all (leb (range .low) value) (leb value (range .high)) (eqb (value % range .step) 0))
     ∙ (λ i. pick (not known) n (pick (not-le (range .low) value i || not-le value (range .high) i || not (eqb (value % range .step) 0)) k 0))
 
-pub frequency-refused : (p : Profile) (byte : ℕ) → not (frequencyOk p byte) ≡ badFrequency byte
+pub frequency-refused : (p : Profile) (byte : ℕ) → not (frequencyOk p (digitOf fsw byte)) ≡ badFrequency byte
 frequency-refused p byte =
     let low : byte / 1 % 8 ≡ byte % 8 = omega arith in
     rw low (span (λ n. not (leb 1 n && leb n 6) ≡ (eqb n 0 || eqb n 7)) 0 8 (byte % 8) (refl, (refl, (refl, (refl, (refl, (refl, (refl, (refl, tt)))))))) (omega arith) (omega arith))

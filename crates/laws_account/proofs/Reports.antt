@@ -16,6 +16,8 @@ use Rattle.laws_account.specs.Held.{profileOf}
 use Rattle.laws_account.specs.Valued.{settingOf, enabled}
 use Rattle.laws_account.specs.Judged.{chargeClamp, bandAt}
 use Rattle.laws_account.specs.Cycles.{phaseAt}
+use Rattle.state_parts.specs.Pins.{ichgOf}
+use Rattle.laws_account.proofs.Fields.{ichg-lifted}
 use Rattle.laws_account.proofs.Sharing.{share-is}
 use Rattle.laws_account.proofs.Judging.{voltage-is}
 use Rattle.state_parts.specs.Stages.{charging}
@@ -28,9 +30,9 @@ limit-is false ohms whole part = refl
 limit-is true zero whole part = refl
 limit-is true (suc ohms) whole part = simp (le-ltb (suc ohms) 1 (omega arith), lt-ltb 0 (suc ohms) (omega arith))
 
-fast-is : (r : Run) → fastCurrent (profileOf r) (settingsAt r) (registersAt r) (bandAt r) ≡ fastAt r
+pub fast-is : (r : Run) → fastCurrent (profileOf r) (settingsAt r) (registersAt r) (bandAt r) ≡ fastAt r
 unfolding fastCurrent fastAt chargeClampOf chargeClamp settingsAt registersAt
-fast-is r = ap (λ share. min (settingOf 2 r) (chargeClamp r) * share / 100) (share-is (bandAt r) r)
+fast-is r = λ i. min (settingOf 2 r) (pick (eqb (ichg-lifted r i) 1) 3300 (ichgOf (profileOf r))) * share-is (bandAt r) r i / 100
 
 input-limit-is : (r : Run) → inputLimitOf (profileOf r) (settingsAt r) ≡ limitAt r
 unfolding inputLimitOf limitAt settingsAt

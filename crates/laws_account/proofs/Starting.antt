@@ -17,7 +17,7 @@ use Rattle.state_parts.proofs.Codes.{least-pin}
 use Rattle.state_parts.specs.declared.profile.Profile.{Profile}
 use Rattle.state_valid.specs.Holds.{profileOk}
 use Rattle.laws_account.specs.History.{powered}
-use Rattle.laws_account.specs.Held.{profileOf, sampleOf, overridden, cellsOf}
+use Rattle.laws_account.specs.Held.{profileOf, sampleOf, cellsOf, fieldAt}
 use Rattle.laws_account.specs.Valued.{pinFault, startValue, settingOf}
 use Rattle.laws_account.specs.Judged.{vbat, packClamp, baseAt, cellPoint}
 
@@ -44,7 +44,7 @@ clear-pins false false c h = (refl, refl)
 
 module _ (p : Profile) (ok : profileOk p ≡ true) (sound : pinFault (powered p) ≡ false) where
   pins : (eqb (p .cell) 0 ≡ false) × (eqb (p .vchg) 0 ≡ false)
-  unfolding pinFault cellsOf overridden profileOf
+  unfolding pinFault cellsOf profileOf fieldAt
   pins = clear-pins (eqb (p .cell) 0) (eqb (p .vchg) 0) (eqb (p .ichg) 0) sound
 
   cells-pos : 0 < p .cell
@@ -54,7 +54,7 @@ module _ (p : Profile) (ok : profileOk p ≡ true) (sound : pinFault (powered p)
   vchg-pos = pos-vchg p (vchg-max p ok) (omega (arith, eqb-false (p .vchg) 0 (pins .1)))
 
   base-pos : 0 < baseAt (powered p) .0
-  unfolding baseAt settingOf startValue packClamp overridden cellsOf profileOf
+  unfolding baseAt settingOf startValue packClamp cellsOf profileOf fieldAt
   base-pos =
       let volts = inPack (vchgOf p) (p .cell) in
       let some = pos-pack (vchgOf p) (p .cell) vchg-pos cells-pos in

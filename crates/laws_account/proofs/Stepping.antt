@@ -13,7 +13,7 @@ use Rattle.state_parts.specs.declared.state.Model.{Model}
 use Rattle.state_start.specs.Values.{startState}
 use Rattle.state_parts.specs.declared.state.State.{State}
 use Rattle.state_parts.specs.declared.state.Model.the-variants.{On}
-use Rattle.state_fields.specs.Rows.{frequencyOk}
+use Rattle.state_table.specs.Rows.{frequencyOk, fsw, digitOf}
 use Rattle.state_settings.specs.Ranges.{knownSetting, mayHold}
 use Rattle.state_valid.specs.Holds.{profileOk, stateOk}
 use Rattle.state_registers.specs.Writes.{writeOf}
@@ -88,7 +88,7 @@ followed-is r (Set n v) =
     two-tests (not (knownSetting (profileOf r) n)) (not (mayHold (profileOf r) n v)) 8 9 _ r (Set n v) refl refl (plain-is r (Set n v) refl refl)
     ∙ ap (λ k. nextAt k r (Set n v)) (set-refused (profileOf r) n v 8 9)
 followed-is r (Write a b) =
-    three-tests (not (leb 0x15 a && leb a 0x1C)) (not (leb b 255)) (eqb a 0x16 && not (frequencyOk (profileOf r) b)) _ r (Write a b) (plain-is r (Write a b) refl refl)
+    three-tests (not (leb 0x15 a && leb a 0x1C)) (not (leb b 255)) (eqb a 0x16 && not (frequencyOk (profileOf r) (digitOf fsw b))) _ r (Write a b) (plain-is r (Write a b) refl refl)
     ∙ ap (λ bad. nextAt (pick (not (leb 0x15 a && leb a 0x1C)) 10 (pick (not (leb b 255)) 5 (pick (eqb a 0x16 && bad) 11 0))) r (Write a b)) (frequency-refused (profileOf r) b)
 followed-is r TakeFlags = taken-next r
 followed-is r (Observe x) = one-test (ltb 3600000 (elapsed (r ▸ Observe x))) 7 _ r (Observe x) refl (observed-is r x)

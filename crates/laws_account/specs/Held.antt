@@ -1,14 +1,12 @@
--- The account, what a run's events leave held: profile, sample, time, the watchdog, overrides, CELL_PIN and register bytes.
-use Prim.Native.Nat.{ℕ, _+_, _-_, _*_, _/_, _%_, _^_}
+-- The account, what a run's events leave held: profile, sample, time, the watchdog, overrides, CELL_PIN and stored fields.
+use Prim.Native.Nat.{ℕ, _+_, _-_, _*_, _%_, _^_}
 use mathlib.Core.Bool.{Bool, true, false, not, _&&_, _||_}
-use mathlib.Core.List.{[], _∷_}
-use lib.ListN.{getD}
 use lib.Dec.{leb, eqb}
 use lib.IntN.{pos}
 use Rattle.base.specs.Pick.{pick}
 use Rattle.state_parts.specs.declared.profile.Profile.{Profile}
 use Rattle.state_parts.specs.declared.sample.Sample.{Sample}
-use Rattle.state_fields.specs.Rows.{Field, digitOf, vchgOverride, cellOverride, cellPin, ichgOverride}
+use Rattle.state_table.specs.Rows.{Field, bitOf, digitOf, vchgOverride, cellOverride, cellPin, ichgOverride}
 use Rattle.settle_permission.specs.Bits.{iindpmOf, vindpmOf, thermalOf}
 use Rattle.laws_account.specs.History.{Run, powered, _▸_, sumAfter}
 use Rattle.step_turns.specs.declared.later.Later.the-variants.{Set, Write, TakeFlags, Observe, Service, Reset}
@@ -87,15 +85,22 @@ overrideOf vchg = vchgOverride
 overrideOf cell = cellOverride
 overrideOf ichg = ichgOverride
 
--- "0x1B and 0x1C start with pin codes, overrides 0." "reaching its period expires it: all three overrides clear". "Register reset .. clears overrides"
-unfoldable pub overridden : Pin → Run → Bool
-overridden k (powered p) = false
-overridden k (r ▸ Set number value) = overridden k r
-overridden k (r ▸ Write address byte) = pick (eqb address (overrideOf k .address)) (eqb (digitOf (overrideOf k) byte) 1) (overridden k r)
-overridden k (r ▸ TakeFlags) = overridden k r
-overridden k (r ▸ Observe x) = overridden k r && not (not (expired r) && expired (r ▸ Observe x))
-overridden k (r ▸ Service) = overridden k r
-overridden k (r ▸ Reset) = false
+abbrev pub isOverride : Field → Bool
+isOverride f = eqb (bitOf f) (bitOf cellOverride) || eqb (bitOf f) (bitOf vchgOverride) || eqb (bitOf f) (bitOf ichgOverride)
+
+-- A stored field: "Resets: 00 E1 AA 95 D7 40; 0x1B and 0x1C start with pin codes, overrides 0." A write at its address brings its code. "reaching its period expires it: all three
+-- overrides clear". "Register reset restores .. the resets above, clears overrides ..; it leaves .. 0x19 bit 7": what the sheet marks is restored, and what it doesn't stands.
+unfoldable pub fieldAt : Field → Run → ℕ
+fieldAt f (powered p) = f .reset
+fieldAt f (r ▸ Set number value) = fieldAt f r
+fieldAt f (r ▸ Write address byte) = pick (eqb (f .address) address) (digitOf f byte) (fieldAt f r)
+fieldAt f (r ▸ TakeFlags) = fieldAt f r
+fieldAt f (r ▸ Observe x) = pick (isOverride f && (not (expired r) && expired (r ▸ Observe x))) 0 (fieldAt f r)
+fieldAt f (r ▸ Service) = fieldAt f r
+fieldAt f (r ▸ Reset) = pick (f .restored) (f .reset) (fieldAt f r)
+
+abbrev pub overridden : Pin → Run → Bool
+overridden k r = eqb (fieldAt (overrideOf k) r) 1
 
 -- "CELL_PIN takes a written count only if CELL_PIN_OVERRIDE stood before the write, the count is 1-7 and it differs."; `cells` is the count held before
 abbrev pub takes : Run → ℕ → ℕ → ℕ → Bool
@@ -110,30 +115,3 @@ cellsOf (r ▸ TakeFlags) = cellsOf r
 cellsOf (r ▸ Observe x) = cellsOf r
 cellsOf (r ▸ Service) = cellsOf r
 cellsOf (r ▸ Reset) = cellsOf r
-
--- "Resets: 00 E1 AA 95 D7 40", from 0x15 on
-abbrev pub resetAt : Profile → ℕ → ℕ
-resetAt p address = getD (0x00 ∷ 0xE1 ∷ 0xAA ∷ 0x95 ∷ 0xD7 ∷ 0x40 ∷ []) (address - 0x15) 0
-
--- "Reserved and read-only bits ignore writes; reserved read 0." By the sheet's tables 6-28 to 6-33 0x15 has bits 3, 1 and 0, 0x1A all but bit 4, and the four between them have all
--- eight.
-abbrev pub takenAt : Profile → ℕ → ℕ → ℕ
-takenAt p address byte = pick (eqb address 0x15) (byte / 8 % 2 * 8 + byte % 4) (pick (eqb address 0x1A) (byte / 32 % 8 * 32 + byte % 16) (byte % 256))
-
--- "Register reset restores .. the resets above ..; it leaves .. 0x19 bit 7."
-abbrev pub restoredAt : Profile → ℕ → ℕ → ℕ
-restoredAt p address held = pick (eqb address 0x19) (held / 128 * 128 + resetAt p address % 128) (resetAt p address)
-
--- the byte of an address from 0x15 to 0x1A
-unfoldable pub byteOf : ℕ → Run → ℕ
-byteOf at (powered p) = resetAt p at
-byteOf at (r ▸ Set number value) = byteOf at r
-byteOf at (r ▸ Write address byte) = pick (eqb address at) (takenAt (profileOf r) at byte) (byteOf at r)
-byteOf at (r ▸ TakeFlags) = byteOf at r
-byteOf at (r ▸ Observe x) = byteOf at r
-byteOf at (r ▸ Service) = byteOf at r
-byteOf at (r ▸ Reset) = restoredAt (profileOf r) at (byteOf at r)
-
--- a field of the registers, by its name
-abbrev pub fieldAt : Field → Run → ℕ
-fieldAt f r = digitOf f (byteOf (f .address) r)

@@ -12,7 +12,7 @@ use Rattle.base.specs.declared.units.PackMv.{PackMv}
 use Rattle.state_parts.specs.Pins.{vchgOf, ichgOf}
 use Rattle.state_parts.specs.declared.band.Band.{Band}
 use Rattle.state_parts.specs.declared.band.Band.the-variants.{Normal, Cold, Cool, Warm, Hot}
-use Rattle.state_fields.specs.Rows.{enTs, enJeita, tsTh1, tsTh2, tsTh3, tsTh5, jeitaIsetc, jeitaIseth, jeitaVset}
+use Rattle.state_table.specs.Rows.{enTs, enJeita, tsTh1, tsTh2, tsTh3, tsTh5, jeitaIsetc, jeitaIseth, jeitaVset}
 use Rattle.settle_bands.specs.Thresholds.{th1At, th2At, th3At, th5At}
 use Rattle.settle_bands.specs.Effect.{coolShare, warmShare, warmCut}
 use Rattle.settle_levels.specs.Comparators.{lowEndsAt}

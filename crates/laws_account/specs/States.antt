@@ -9,6 +9,8 @@ use Rattle.state_parts.specs.declared.cycle.Cycle.{Cycle}
 use Rattle.state_parts.specs.declared.latches.Latches.{Latches}
 use Rattle.state_parts.specs.declared.phase.Phase.{Phase}
 use Rattle.state_parts.specs.declared.registers.Registers.{Registers}
+use Rattle.state_table.specs.Rows.{Field}
+use Rattle.state_fields.specs.Held.{gathered}
 use Rattle.state_parts.specs.declared.settings.Settings.{Settings}
 use Rattle.state_parts.specs.declared.state.State.{State}
 use Rattle.state_parts.specs.declared.state.Model.{Model}
@@ -17,7 +19,7 @@ use Rattle.state_parts.specs.declared.watchdog.Watchdog.{Watchdog}
 use Rattle.log_event.specs.declared.Event.{Event}
 use Rattle.step_kinds.specs.Answers.{Outcome, refusedWith}
 use Rattle.laws_account.specs.History.{Run}
-use Rattle.laws_account.specs.Held.{profileOf, sampleOf, unserved, vchg, cell, ichg, overridden, cellsOf, byteOf}
+use Rattle.laws_account.specs.Held.{profileOf, sampleOf, unserved, cellsOf, fieldAt}
 use Rattle.laws_account.specs.Valued.{settingOf}
 use Rattle.laws_account.specs.Judged.{inputOk, inputOver, short, low, packOver, bandAt}
 use Rattle.laws_account.specs.Cycles.{trickle, precharge, fast, isDone, timeIn, phaseAt}
@@ -46,19 +48,9 @@ numbered value = record {
 unfoldable pub settingsAt : Run → Settings
 settingsAt r = numbered (λ number. settingOf number r)
 
+-- the stored fields, each with its code
 unfoldable pub registersAt : Run → Registers
-registersAt r = record {
-  r15 = byteOf 0x15 r;
-  r16 = byteOf 0x16 r;
-  r17 = byteOf 0x17 r;
-  r18 = byteOf 0x18 r;
-  r19 = byteOf 0x19 r;
-  r1a = byteOf 0x1A r;
-  cells = cellsOf r;
-  vchgoverride = overridden vchg r;
-  celloverride = overridden cell r;
-  ichgoverride = overridden ichg r;
-}
+registersAt r = record { words = gathered (profileOf r) (λ (f : Field). fieldAt f r); cells = cellsOf r }
 
 unfoldable pub latchesAt : Run → Latches
 latchesAt r = record { inputok = inputOk r; inputover = inputOver r; short = short r; low = low r; packover = packOver r }

@@ -9,7 +9,7 @@ use Rattle.base.specs.Units.{inPack}
 use Rattle.base.specs.Volts.{millivoltsOf}
 use Rattle.state_parts.specs.Pins.{vchgOf, ichgOf}
 use Rattle.state_parts.specs.declared.profile.Profile.{Profile}
-use Rattle.state_fields.specs.Rows.{digitOf, cellPin}
+use Rattle.state_table.specs.Rows.{digitOf, cellPin}
 use Rattle.laws_account.specs.History.{Run, powered, _▸_}
 use Rattle.step_turns.specs.declared.later.Later.the-variants.{Set, Write, TakeFlags, Observe, Service, Reset}
 use Rattle.laws_account.specs.Held.{profileOf, vchg, ichg, overridden, takes, cellsOf}

@@ -19,11 +19,11 @@ use Rattle.settle_permission.specs.Limits.{reachedOf}
 use Rattle.settle_permission.specs.Permission.{permittedOf}
 use Rattle.settle_phases.specs.Cycles.{cycleOf}
 use Rattle.settle_phases.specs.Order.{phaseOf, clearsOf, endsOf, judgedOf, restartsOf}
-use Rattle.state_fields.specs.Held.{withByte}
-use Rattle.state_fields.specs.Rows.{takenOf, fieldsAt, shownOf, fields}
-use Rattle.state_registers.specs.Reads.{byteAt}
+use Rattle.state_fields.specs.Words.{putAt, withWord, putIn}
+use Rattle.state_fields.specs.Held.{gathered, startWords, takenBy, restoredBy, wordsOk, withoutOverrides}
+use Rattle.state_table.specs.Rows.{fields, fieldsOf}
 use Rattle.state_registers.specs.Resets.{resetOf, resetRegisters}
-use Rattle.state_registers.specs.Writes.{writeOf, writtenTo, recounted}
+use Rattle.state_registers.specs.Writes.{writeOf, writtenRegisters, writtenTo, recounted}
 use Rattle.state_settings.specs.Kept.{settingsOk}
 use Rattle.state_settings.specs.Numbered.{storeOf, heldOf, settingNumbers}
 use Rattle.state_settings.specs.Ranges.{mayHold, rangeOf, ranges}
@@ -32,7 +32,7 @@ use Rattle.state_valid.specs.Holds.{sampleOk, stateOk, profileOk, registersOk, 
 use Rattle.step_event.specs.Clock.{observedOf, countedOf, clearedIf, timesOf, unitsOf}
 use Rattle.step_event.specs.Steps.{stepOf, turnedBy, changeOf, firstOf, movedOf, followedOf, observeOf, seenOn}
 use Rattle.step_flags.specs.Edges.{edgesOf, seenOf}
-use Rattle.step_flags.specs.Expiry.{expiredOf}
+use Rattle.step_flags.specs.Expiry.{expiredOf, expiresOf}
 use Rattle.step_kinds.specs.Finish.{finishOf}
 use Rattle.step_kinds.specs.Plain.{setOf, writtenOf}
 use Rattle.step_turns.specs.Ranges.{profileInRange, sampleInRange}
@@ -62,7 +62,7 @@ begins precharge time = refl
 begins fast time = refl
 
 unfit : (s : Stage) (t : ℕ) → stateOk (invented s (suc t)) ≡ false
-unfolding stepOf reportOf fastCurrent chargeClampOf chargeVoltageOf inputLimitOf shareOf cutOf baseOf packClampOf inPack belowShare firstOf stateOk movedOf profileOk settingsOk registersOk cycleOk watchdogOk sampleOk setOf observeOf finishOf settledOf testsOf mayHold storeOf writeOf observedOf resetOf settleOf edgesOf merged pulseOf timesOf unitsOf bandOf cycleOf phaseOf permittedOf suspendsOf belowRecharge taperOf endingOf flagsNumber startState heldOf shownOf rangeOf writtenTo countedOf expiredOf clearedIf startSettings resetRegisters startVsysmin takenOf forcedOf latchesOf seenOf regulatedOf clearsOf endsOf judgedOf faultOf reachedOf settingNumbers fieldsAt ranges recounted withByte byteAt startVreg startIchg shortOf lowOf packOverOf restartsOf fields turnedBy changeOf followedOf writtenOf turnOf profileInRange sampleInRange seenOn
+unfolding stepOf reportOf fastCurrent chargeClampOf chargeVoltageOf inputLimitOf shareOf cutOf baseOf packClampOf inPack belowShare firstOf stateOk movedOf profileOk settingsOk registersOk cycleOk watchdogOk sampleOk setOf observeOf finishOf settledOf testsOf mayHold storeOf writeOf observedOf resetOf settleOf edgesOf merged pulseOf timesOf unitsOf bandOf cycleOf phaseOf permittedOf suspendsOf belowRecharge taperOf endingOf flagsNumber startState heldOf wordsOk rangeOf writtenTo countedOf expiredOf clearedIf startSettings resetRegisters startVsysmin takenBy forcedOf latchesOf seenOf regulatedOf clearsOf endsOf judgedOf faultOf reachedOf settingNumbers fieldsOf ranges recounted writtenRegisters gathered startVreg startIchg shortOf lowOf packOverOf restartsOf fields turnedBy changeOf followedOf writtenOf turnOf profileInRange sampleInRange seenOn startWords restoredBy withoutOverrides putIn withWord putAt expiresOf
 unfit trickle t = simp eqb·suc-zero
 unfit precharge t = simp eqb·suc-zero
 unfit fast t = simp eqb·suc-zero

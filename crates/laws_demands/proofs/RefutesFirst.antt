@@ -19,11 +19,11 @@ use Rattle.state_settings.specs.Kept.{settingsOk}
 use Rattle.state_settings.specs.Numbered.{storeOf, heldOf, settingNumbers}
 use Rattle.state_settings.specs.Ranges.{mayHold, rangeOf, ranges}
 use Rattle.state_valid.specs.Holds.{stateOk, profileOk, registersOk, cycleOk, watchdogOk, sampleOk}
-use Rattle.state_fields.specs.Rows.{shownOf, fieldsAt, takenOf, fields}
-use Rattle.state_registers.specs.Reads.{byteAt}
+use Rattle.state_table.specs.Rows.{fields, fieldsOf}
 use Rattle.state_registers.specs.Resets.{resetOf, resetRegisters}
-use Rattle.state_registers.specs.Writes.{writeOf, writtenTo, recounted}
-use Rattle.state_fields.specs.Held.{withByte}
+use Rattle.state_registers.specs.Writes.{writeOf, writtenRegisters, writtenTo, recounted}
+use Rattle.state_fields.specs.Words.{putAt, withWord, putIn}
+use Rattle.state_fields.specs.Held.{gathered, startWords, takenBy, restoredBy, wordsOk, withoutOverrides}
 use Rattle.settle_levels.specs.Clamps.{faultOf, baseOf, packClampOf}
 use Rattle.settle_levels.specs.Comparators.{latchesOf, shortOf, lowOf, packOverOf}
 use Rattle.settle_levels.specs.Voltage.{belowRecharge, taperOf, chargeVoltageOf}
@@ -38,7 +38,7 @@ use Rattle.settle_phases.specs.Order.{phaseOf, clearsOf, endsOf, judgedOf, rest
 use Rattle.settle_all.specs.Gather.{testsOf}
 use Rattle.settle_all.specs.Settle.{settleOf, forcedOf, settledOf}
 use Rattle.step_flags.specs.Edges.{edgesOf, seenOf}
-use Rattle.step_flags.specs.Expiry.{expiredOf}
+use Rattle.step_flags.specs.Expiry.{expiredOf, expiresOf}
 use Rattle.step_kinds.specs.Finish.{finishOf}
 use Rattle.step_kinds.specs.Plain.{setOf, writtenOf}
 use Rattle.step_turns.specs.Ranges.{profileInRange, sampleInRange}
@@ -62,7 +62,7 @@ stays : (buffer after : List ℕ) (n place : ℕ) → WrittenIn buffer (answer.r
 stays buffer after n place no-room = refl
 
 pub first-refuted : FirstRefuted
-unfolding forgets stopsAlways spills stepOf written spellEvent settleOf startState firstOf stateOk movedOf spellItems forcedOf latchesOf bandOf settledOf testsOf startSettings profileOk settingsOk registersOk cycleOk watchdogOk sampleOk setOf observeOf faultOf baseOf shortOf lowOf packOverOf cycleOf phaseOf permittedOf suspendsOf belowRecharge taperOf chargeVoltageOf endingOf startVreg startIchg startVsysmin mayHold finishOf storeOf writeOf observedOf resetOf spell packClampOf inPack belowShare clearsOf endsOf judgedOf reachedOf cutOf regulatedOf heldOf shownOf rangeOf edgesOf merged pulseOf writtenTo countedOf expiredOf clearedIf timesOf unitsOf resetRegisters groups restartsOf settingNumbers fieldsAt ranges seenOf recounted withByte takenOf byteAt fields turnedBy changeOf followedOf writtenOf turnOf profileInRange sampleInRange seenOn
+unfolding forgets stopsAlways spills stepOf written spellEvent settleOf startState firstOf stateOk movedOf spellItems forcedOf latchesOf bandOf settledOf testsOf startSettings profileOk settingsOk registersOk cycleOk watchdogOk sampleOk setOf observeOf faultOf baseOf shortOf lowOf packOverOf cycleOf phaseOf permittedOf suspendsOf belowRecharge taperOf chargeVoltageOf endingOf startVreg startIchg startVsysmin mayHold finishOf storeOf writeOf observedOf resetOf spell packClampOf inPack belowShare clearsOf endsOf judgedOf reachedOf cutOf regulatedOf heldOf wordsOk rangeOf edgesOf merged pulseOf writtenTo countedOf expiredOf clearedIf timesOf unitsOf resetRegisters groups restartsOf settingNumbers fieldsOf ranges seenOf recounted writtenRegisters takenBy gathered fields turnedBy changeOf followedOf writtenOf turnOf profileInRange sampleInRange seenOn startWords restoredBy withoutOverrides putIn withWord putAt expiresOf
 first-refuted = record {
   forgotten = λ p e d.
       let s = On (poweredOf (heldProfile paper)) in

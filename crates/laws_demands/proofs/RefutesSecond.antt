@@ -20,11 +20,11 @@ use Rattle.settle_permission.specs.Limits.{reachedOf}
 use Rattle.settle_permission.specs.Permission.{permittedOf}
 use Rattle.settle_phases.specs.Cycles.{cycleOf}
 use Rattle.settle_phases.specs.Order.{phaseOf, clearsOf, endsOf, judgedOf, restartsOf}
-use Rattle.state_fields.specs.Held.{withByte}
-use Rattle.state_fields.specs.Rows.{takenOf, fieldsAt, shownOf, fields}
-use Rattle.state_registers.specs.Reads.{byteAt}
+use Rattle.state_fields.specs.Words.{putAt, withWord, putIn}
+use Rattle.state_fields.specs.Held.{gathered, startWords, takenBy, restoredBy, wordsOk, withoutOverrides}
+use Rattle.state_table.specs.Rows.{fields, fieldsOf}
 use Rattle.state_registers.specs.Resets.{resetOf, resetRegisters}
-use Rattle.state_registers.specs.Writes.{writeOf, writtenTo, recounted}
+use Rattle.state_registers.specs.Writes.{writeOf, writtenRegisters, writtenTo, recounted}
 use Rattle.state_settings.specs.Kept.{settingsOk}
 use Rattle.state_settings.specs.Numbered.{storeOf, heldOf, settingNumbers}
 use Rattle.state_settings.specs.Ranges.{mayHold, rangeOf, ranges}
@@ -33,7 +33,7 @@ use Rattle.state_valid.specs.Holds.{sampleOk, stateOk, profileOk, registersOk, 
 use Rattle.step_event.specs.Clock.{observedOf, countedOf, clearedIf, timesOf, unitsOf}
 use Rattle.step_event.specs.Steps.{modelOk, stepOf, turnedBy, changeOf, firstOf, movedOf, followedOf, observeOf, seenOn}
 use Rattle.step_flags.specs.Edges.{edgesOf, seenOf}
-use Rattle.step_flags.specs.Expiry.{expiredOf}
+use Rattle.step_flags.specs.Expiry.{expiredOf, expiresOf}
 use Rattle.step_kinds.specs.Finish.{finishOf}
 use Rattle.step_kinds.specs.Plain.{setOf, writtenOf}
 use Rattle.step_turns.specs.Ranges.{profileInRange, sampleInRange}
@@ -89,7 +89,7 @@ stray = withSample (poweredOf (heldProfile paper)) (heldSample (sample 0 0 0 800
 
 -- a stage's time at the power-on, and after an observation with another stage's or its own before it
 invented : (s : Stage) (time : ℕ) → ¬ Moves (inventsTimes s time)
-unfolding inventsTimes stepOf reportOf fastCurrent chargeClampOf chargeVoltageOf inputLimitOf shareOf cutOf baseOf packClampOf inPack belowShare firstOf stateOk movedOf profileOk settingsOk registersOk cycleOk watchdogOk sampleOk setOf observeOf finishOf settledOf testsOf mayHold storeOf writeOf observedOf resetOf settleOf edgesOf merged pulseOf timesOf unitsOf bandOf cycleOf phaseOf permittedOf suspendsOf belowRecharge taperOf endingOf flagsNumber startState heldOf shownOf rangeOf writtenTo countedOf expiredOf clearedIf startSettings resetRegisters startVsysmin takenOf forcedOf latchesOf seenOf regulatedOf clearsOf endsOf judgedOf faultOf reachedOf settingNumbers fieldsAt ranges recounted withByte byteAt startVreg startIchg shortOf lowOf packOverOf restartsOf fields turnedBy changeOf followedOf writtenOf turnOf profileInRange sampleInRange seenOn ranBy
+unfolding inventsTimes stepOf reportOf fastCurrent chargeClampOf chargeVoltageOf inputLimitOf shareOf cutOf baseOf packClampOf inPack belowShare firstOf stateOk movedOf profileOk settingsOk registersOk cycleOk watchdogOk sampleOk setOf observeOf finishOf settledOf testsOf mayHold storeOf writeOf observedOf resetOf settleOf edgesOf merged pulseOf timesOf unitsOf bandOf cycleOf phaseOf permittedOf suspendsOf belowRecharge taperOf endingOf flagsNumber startState heldOf wordsOk rangeOf writtenTo countedOf expiredOf clearedIf startSettings resetRegisters startVsysmin takenBy forcedOf latchesOf seenOf regulatedOf clearsOf endsOf judgedOf faultOf reachedOf settingNumbers fieldsOf ranges recounted writtenRegisters gathered startVreg startIchg shortOf lowOf packOverOf restartsOf fields turnedBy changeOf followedOf writtenOf turnOf profileInRange sampleInRange seenOn ranBy startWords restoredBy withoutOverrides putIn withWord putAt expiresOf
 invented trickle time d =
     let y : time ≡ 0 = ap (of (λ s. s .cycle .trickle)) (as-ours _ d [] (PowerOn paper)) in
     let z : time ≡ 2000 = ap (of (λ s. s .cycle .trickle)) (as-ours _ d (day paper (seen 1000 3000 ∷ [])) (Observe (seen 2000 3000))) in
@@ -114,7 +114,7 @@ read-count p d bytes are short =
     ap counted (d .walks .walks bytes are short) ∙ ap (λ (l : Log). length (l .events)) (same-log (p .read) (d .reads) bytes are (suc (length bytes)) 0)
 
 counts-break : (count : ℕ) → WalkBreaks (inventsCounts count)
-unfolding inventsCounts wholeOf pageOf startWalk walkOf metBy lineOf logFrom recordAt readRecord readItems readNumber readGroups stepOf reportOf fastCurrent chargeClampOf chargeVoltageOf inputLimitOf shareOf cutOf baseOf packClampOf inPack belowShare firstOf stateOk movedOf profileOk settingsOk registersOk cycleOk watchdogOk sampleOk setOf observeOf finishOf settledOf testsOf mayHold storeOf writeOf observedOf resetOf settleOf edgesOf merged pulseOf timesOf unitsOf bandOf cycleOf phaseOf permittedOf suspendsOf belowRecharge taperOf endingOf flagsNumber startState heldOf shownOf rangeOf writtenTo countedOf expiredOf clearedIf startSettings resetRegisters startVsysmin takenOf forcedOf latchesOf seenOf regulatedOf clearsOf endsOf judgedOf faultOf reachedOf settingNumbers fieldsAt ranges recounted withByte byteAt startVreg startIchg shortOf lowOf packOverOf restartsOf fields turnedBy changeOf followedOf writtenOf turnOf profileInRange sampleInRange seenOn ranBy
+unfolding inventsCounts wholeOf pageOf startWalk walkOf metBy lineOf logFrom recordAt readRecord readItems readNumber readGroups stepOf reportOf fastCurrent chargeClampOf chargeVoltageOf inputLimitOf shareOf cutOf baseOf packClampOf inPack belowShare firstOf stateOk movedOf profileOk settingsOk registersOk cycleOk watchdogOk sampleOk setOf observeOf finishOf settledOf testsOf mayHold storeOf writeOf observedOf resetOf settleOf edgesOf merged pulseOf timesOf unitsOf bandOf cycleOf phaseOf permittedOf suspendsOf belowRecharge taperOf endingOf flagsNumber startState heldOf wordsOk rangeOf writtenTo countedOf expiredOf clearedIf startSettings resetRegisters startVsysmin takenBy forcedOf latchesOf seenOf regulatedOf clearsOf endsOf judgedOf faultOf reachedOf settingNumbers fieldsOf ranges recounted writtenRegisters gathered startVreg startIchg shortOf lowOf packOverOf restartsOf fields turnedBy changeOf followedOf writtenOf turnOf profileInRange sampleInRange seenOn ranBy startWords restoredBy withoutOverrides putIn withWord putAt expiresOf
 counts-break count p e d =
     let y : count ≡ 0 = ap (λ (w : Walker). counted (w [])) (sym e) ∙ read-count p d [] no-byte (omega arith) in
     let z : count ≡ 1 = ap (λ (w : Walker). counted (w (4 ∷ []))) (sym e) ∙ read-count p d (4 ∷ []) one-byte (omega arith) in
@@ -130,7 +130,7 @@ constant bytes d =
     differ 6 7 refl (ap left (sym (d .written Service (6 ∷ []) (paper-bytes .service) (0 ∷ []) (omega arith)) ∙ d .written Reset (7 ∷ []) (paper-bytes .reset) (0 ∷ []) (omega arith)))
 
 pub second-refuted : SecondRefuted
-unfolding modelOk stepByBase neverRestarts refusesAlways reportsZeros ignoresEvents worksOnce sameWrite scalesPrecharge timesAfter judgesCool coolFirst dropsStray stepOf reportOf fastCurrent chargeClampOf chargeVoltageOf inputLimitOf shareOf cutOf baseOf packClampOf inPack belowShare firstOf stateOk movedOf profileOk settingsOk registersOk cycleOk watchdogOk sampleOk setOf observeOf finishOf settledOf testsOf mayHold storeOf writeOf observedOf resetOf settleOf edgesOf merged pulseOf timesOf unitsOf bandOf cycleOf phaseOf permittedOf suspendsOf belowRecharge taperOf endingOf flagsNumber startState heldOf shownOf rangeOf writtenTo countedOf expiredOf clearedIf startSettings resetRegisters startVsysmin takenOf forcedOf latchesOf seenOf regulatedOf clearsOf endsOf judgedOf faultOf reachedOf settingNumbers fieldsAt ranges recounted withByte byteAt startVreg startIchg shortOf lowOf packOverOf restartsOf fields turnedBy changeOf followedOf writtenOf turnOf profileInRange sampleInRange seenOn ranBy
+unfolding modelOk stepByBase neverRestarts refusesAlways reportsZeros ignoresEvents worksOnce sameWrite scalesPrecharge timesAfter judgesCool coolFirst dropsStray stepOf reportOf fastCurrent chargeClampOf chargeVoltageOf inputLimitOf shareOf cutOf baseOf packClampOf inPack belowShare firstOf stateOk movedOf profileOk settingsOk registersOk cycleOk watchdogOk sampleOk setOf observeOf finishOf settledOf testsOf mayHold storeOf writeOf observedOf resetOf settleOf edgesOf merged pulseOf timesOf unitsOf bandOf cycleOf phaseOf permittedOf suspendsOf belowRecharge taperOf endingOf flagsNumber startState heldOf wordsOk rangeOf writtenTo countedOf expiredOf clearedIf startSettings resetRegisters startVsysmin takenBy forcedOf latchesOf seenOf regulatedOf clearsOf endsOf judgedOf faultOf reachedOf settingNumbers fieldsOf ranges recounted writtenRegisters gathered startVreg startIchg shortOf lowOf packOverOf restartsOf fields turnedBy changeOf followedOf writtenOf turnOf profileInRange sampleInRange seenOn ranBy startWords restoredBy withoutOverrides putIn withWord putAt expiresOf
 second-refuted = record {
   refuses = λ r. step-breaks _ (λ d.
       let z : refusalNumber r ≡ 0 = ap (λ (o : Outcome). o .number) (as-ours _ d [] (PowerOn paper)) in

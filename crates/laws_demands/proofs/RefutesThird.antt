@@ -19,11 +19,11 @@ use Rattle.settle_permission.specs.Limits.{reachedOf}
 use Rattle.settle_permission.specs.Permission.{permittedOf}
 use Rattle.settle_phases.specs.Cycles.{cycleOf}
 use Rattle.settle_phases.specs.Order.{phaseOf, clearsOf, endsOf, judgedOf, restartsOf}
-use Rattle.state_fields.specs.Held.{withByte}
-use Rattle.state_fields.specs.Rows.{takenOf, fieldsAt, shownOf, fields}
-use Rattle.state_registers.specs.Reads.{byteAt}
+use Rattle.state_fields.specs.Words.{putAt, withWord, putIn}
+use Rattle.state_fields.specs.Held.{gathered, startWords, takenBy, restoredBy, wordsOk, withoutOverrides}
+use Rattle.state_table.specs.Rows.{fields, fieldsOf}
 use Rattle.state_registers.specs.Resets.{resetOf, resetRegisters}
-use Rattle.state_registers.specs.Writes.{writeOf, writtenTo, recounted}
+use Rattle.state_registers.specs.Writes.{writeOf, writtenRegisters, writtenTo, recounted}
 use Rattle.state_settings.specs.Kept.{settingsOk}
 use Rattle.state_settings.specs.Numbered.{storeOf, heldOf, settingNumbers}
 use Rattle.state_settings.specs.Ranges.{mayHold, rangeOf, ranges}
@@ -32,7 +32,7 @@ use Rattle.state_valid.specs.Holds.{sampleOk, stateOk, profileOk, registersOk, 
 use Rattle.step_event.specs.Clock.{observedOf, countedOf, clearedIf, timesOf, unitsOf}
 use Rattle.step_event.specs.Steps.{stepOf, turnedBy, changeOf, firstOf, movedOf, followedOf, observeOf, seenOn}
 use Rattle.step_flags.specs.Edges.{edgesOf, seenOf}
-use Rattle.step_flags.specs.Expiry.{expiredOf}
+use Rattle.step_flags.specs.Expiry.{expiredOf, expiresOf}
 use Rattle.step_kinds.specs.Finish.{finishOf}
 use Rattle.step_kinds.specs.Plain.{setOf, writtenOf}
 use Rattle.step_turns.specs.Ranges.{profileInRange, sampleInRange}
@@ -76,13 +76,13 @@ zero-always (On s) = refl
 
 -- a stage's time invented: 0 at its limit, or a number where it has none
 never : (s : Stage) → ¬ ThirdOfLists (inventsTimes s 0) reportOf
-unfolding inventsTimes stepOf reportOf fastCurrent chargeClampOf chargeVoltageOf inputLimitOf shareOf cutOf baseOf packClampOf inPack belowShare firstOf stateOk movedOf profileOk settingsOk registersOk cycleOk watchdogOk sampleOk setOf observeOf finishOf settledOf testsOf mayHold storeOf writeOf observedOf resetOf settleOf edgesOf merged pulseOf timesOf unitsOf bandOf cycleOf phaseOf permittedOf suspendsOf belowRecharge taperOf endingOf flagsNumber startState heldOf shownOf rangeOf writtenTo countedOf expiredOf clearedIf startSettings resetRegisters startVsysmin takenOf forcedOf latchesOf seenOf regulatedOf clearsOf endsOf judgedOf faultOf reachedOf settingNumbers fieldsAt ranges recounted withByte byteAt startVreg startIchg shortOf lowOf packOverOf restartsOf fields turnedBy changeOf followedOf writtenOf turnOf profileInRange sampleInRange seenOn ranBy
+unfolding inventsTimes stepOf reportOf fastCurrent chargeClampOf chargeVoltageOf inputLimitOf shareOf cutOf baseOf packClampOf inPack belowShare firstOf stateOk movedOf profileOk settingsOk registersOk cycleOk watchdogOk sampleOk setOf observeOf finishOf settledOf testsOf mayHold storeOf writeOf observedOf resetOf settleOf edgesOf merged pulseOf timesOf unitsOf bandOf cycleOf phaseOf permittedOf suspendsOf belowRecharge taperOf endingOf flagsNumber startState heldOf wordsOk rangeOf writtenTo countedOf expiredOf clearedIf startSettings resetRegisters startVsysmin takenBy forcedOf latchesOf seenOf regulatedOf clearsOf endsOf judgedOf faultOf reachedOf settingNumbers fieldsOf ranges recounted writtenRegisters gathered startVreg startIchg shortOf lowOf packOverOf restartsOf fields turnedBy changeOf followedOf writtenOf turnOf profileInRange sampleInRange seenOn ranBy startWords restoredBy withoutOverrides putIn withWord putAt expiresOf
 never trickle = charges-there _ _ (secondIn trickle) (omega arith) refl
 never precharge = charges-there _ _ (secondIn precharge) (omega arith) refl
 never fast = charges-there _ _ (secondIn fast) (omega arith) refl
 
 some-time : (s : Stage) (t : ℕ) → ¬ ThirdOfLists (inventsTimes s (suc t)) reportOf
-unfolding stepOf reportOf fastCurrent chargeClampOf chargeVoltageOf inputLimitOf shareOf cutOf baseOf packClampOf inPack belowShare firstOf stateOk movedOf profileOk settingsOk registersOk cycleOk watchdogOk sampleOk setOf observeOf finishOf settledOf testsOf mayHold storeOf writeOf observedOf resetOf settleOf edgesOf merged pulseOf timesOf unitsOf bandOf cycleOf phaseOf permittedOf suspendsOf belowRecharge taperOf endingOf flagsNumber startState heldOf shownOf rangeOf writtenTo countedOf expiredOf clearedIf startSettings resetRegisters startVsysmin takenOf forcedOf latchesOf seenOf regulatedOf clearsOf endsOf judgedOf faultOf reachedOf settingNumbers fieldsAt ranges recounted withByte byteAt startVreg startIchg shortOf lowOf packOverOf restartsOf fields turnedBy changeOf followedOf writtenOf turnOf profileInRange sampleInRange seenOn ranBy
+unfolding stepOf reportOf fastCurrent chargeClampOf chargeVoltageOf inputLimitOf shareOf cutOf baseOf packClampOf inPack belowShare firstOf stateOk movedOf profileOk settingsOk registersOk cycleOk watchdogOk sampleOk setOf observeOf finishOf settledOf testsOf mayHold storeOf writeOf observedOf resetOf settleOf edgesOf merged pulseOf timesOf unitsOf bandOf cycleOf phaseOf permittedOf suspendsOf belowRecharge taperOf endingOf flagsNumber startState heldOf wordsOk rangeOf writtenTo countedOf expiredOf clearedIf startSettings resetRegisters startVsysmin takenBy forcedOf latchesOf seenOf regulatedOf clearsOf endsOf judgedOf faultOf reachedOf settingNumbers fieldsOf ranges recounted writtenRegisters gathered startVreg startIchg shortOf lowOf packOverOf restartsOf fields turnedBy changeOf followedOf writtenOf turnOf profileInRange sampleInRange seenOn ranBy startWords restoredBy withoutOverrides putIn withWord putAt expiresOf
 some-time trickle t = rests-there _ _ (unlimitedIn trickle) (ap (currentBy reportOf) (stands trickle t)) (omega arith)
 some-time precharge t = rests-there _ _ (unlimitedIn precharge) (ap (currentBy reportOf) (stands precharge t)) (omega arith)
 some-time fast t = rests-there _ _ (unlimitedIn fast) (ap (currentBy reportOf) (stands fast t)) (omega arith)
@@ -92,7 +92,7 @@ made s zero = never s
 made s (suc t) = some-time s t
 
 pub third-refuted : ThirdRefuted
-unfolding refusesAlways ignoresEvents worksOnce powersOnce timesAfter halvesByNew keepsTimes stepByBase neverRestarts stepOf reportOf fastCurrent chargeClampOf chargeVoltageOf inputLimitOf shareOf cutOf baseOf packClampOf inPack belowShare firstOf stateOk movedOf profileOk settingsOk registersOk cycleOk watchdogOk sampleOk setOf observeOf finishOf settledOf testsOf mayHold storeOf writeOf observedOf resetOf settleOf edgesOf merged pulseOf timesOf unitsOf bandOf cycleOf phaseOf permittedOf suspendsOf belowRecharge taperOf endingOf flagsNumber startState heldOf shownOf rangeOf writtenTo countedOf expiredOf clearedIf startSettings resetRegisters startVsysmin takenOf forcedOf latchesOf seenOf regulatedOf clearsOf endsOf judgedOf faultOf reachedOf settingNumbers fieldsAt ranges recounted withByte byteAt startVreg startIchg shortOf lowOf packOverOf restartsOf fields turnedBy changeOf followedOf writtenOf turnOf profileInRange sampleInRange seenOn ranBy
+unfolding refusesAlways ignoresEvents worksOnce powersOnce timesAfter halvesByNew keepsTimes stepByBase neverRestarts stepOf reportOf fastCurrent chargeClampOf chargeVoltageOf inputLimitOf shareOf cutOf baseOf packClampOf inPack belowShare firstOf stateOk movedOf profileOk settingsOk registersOk cycleOk watchdogOk sampleOk setOf observeOf finishOf settledOf testsOf mayHold storeOf writeOf observedOf resetOf settleOf edgesOf merged pulseOf timesOf unitsOf bandOf cycleOf phaseOf permittedOf suspendsOf belowRecharge taperOf endingOf flagsNumber startState heldOf wordsOk rangeOf writtenTo countedOf expiredOf clearedIf startSettings resetRegisters startVsysmin takenBy forcedOf latchesOf seenOf regulatedOf clearsOf endsOf judgedOf faultOf reachedOf settingNumbers fieldsOf ranges recounted writtenRegisters gathered startVreg startIchg shortOf lowOf packOverOf restartsOf fields turnedBy changeOf followedOf writtenOf turnOf profileInRange sampleInRange seenOn ranBy startWords restoredBy withoutOverrides putIn withWord putAt expiresOf
 third-refuted = record {
   refuses = λ r report. rests-there (refusesAlways r) report paperDay refl (omega arith);
   zeros = λ step. rests-there step reportsZeros paperDay (zero-always (ranBy step Off paperDay)) (omega arith);
@@ -109,10 +109,10 @@ third-refuted = record {
 
 -- the customer's log, by this product and by the rule before
 pub customer-told : CustomerTold
-unfolding phasesBy stepByBase neverRestarts stepOf reportOf fastCurrent chargeClampOf chargeVoltageOf inputLimitOf shareOf cutOf baseOf packClampOf inPack belowShare firstOf stateOk movedOf profileOk settingsOk registersOk cycleOk watchdogOk sampleOk setOf observeOf finishOf settledOf testsOf mayHold storeOf writeOf observedOf resetOf settleOf edgesOf merged pulseOf timesOf unitsOf bandOf cycleOf phaseOf permittedOf suspendsOf belowRecharge taperOf endingOf flagsNumber startState heldOf shownOf rangeOf writtenTo countedOf expiredOf clearedIf startSettings resetRegisters startVsysmin takenOf forcedOf latchesOf seenOf regulatedOf clearsOf endsOf judgedOf faultOf reachedOf settingNumbers fieldsAt ranges recounted withByte byteAt startVreg startIchg shortOf lowOf packOverOf restartsOf fields turnedBy changeOf followedOf writtenOf turnOf profileInRange sampleInRange seenOn ranBy
+unfolding phasesBy stepByBase neverRestarts stepOf reportOf fastCurrent chargeClampOf chargeVoltageOf inputLimitOf shareOf cutOf baseOf packClampOf inPack belowShare firstOf stateOk movedOf profileOk settingsOk registersOk cycleOk watchdogOk sampleOk setOf observeOf finishOf settledOf testsOf mayHold storeOf writeOf observedOf resetOf settleOf edgesOf merged pulseOf timesOf unitsOf bandOf cycleOf phaseOf permittedOf suspendsOf belowRecharge taperOf endingOf flagsNumber startState heldOf wordsOk rangeOf writtenTo countedOf expiredOf clearedIf startSettings resetRegisters startVsysmin takenBy forcedOf latchesOf seenOf regulatedOf clearsOf endsOf judgedOf faultOf reachedOf settingNumbers fieldsOf ranges recounted writtenRegisters gathered startVreg startIchg shortOf lowOf packOverOf restartsOf fields turnedBy changeOf followedOf writtenOf turnOf profileInRange sampleInRange seenOn ranBy startWords restoredBy withoutOverrides putIn withWord putAt expiresOf
 customer-told = record { ours = refl; byBase = refl; unrestarted = refl }
 
 -- at 7,900 an observation ends the charge, and that rule is in phase 4
 pub operators-refuted : OperatorsRefuted
-unfolding stepByBase stepOf reportOf fastCurrent chargeClampOf chargeVoltageOf inputLimitOf shareOf cutOf baseOf packClampOf inPack belowShare firstOf stateOk movedOf profileOk settingsOk registersOk cycleOk watchdogOk sampleOk setOf observeOf finishOf settledOf testsOf mayHold storeOf writeOf observedOf resetOf settleOf edgesOf merged pulseOf timesOf unitsOf bandOf cycleOf phaseOf permittedOf suspendsOf belowRecharge taperOf endingOf flagsNumber startState heldOf shownOf rangeOf writtenTo countedOf expiredOf clearedIf startSettings resetRegisters startVsysmin takenOf forcedOf latchesOf seenOf regulatedOf clearsOf endsOf judgedOf faultOf reachedOf settingNumbers fieldsAt ranges recounted withByte byteAt startVreg startIchg shortOf lowOf packOverOf restartsOf fields turnedBy changeOf followedOf writtenOf turnOf profileInRange sampleInRange seenOn ranBy
+unfolding stepByBase stepOf reportOf fastCurrent chargeClampOf chargeVoltageOf inputLimitOf shareOf cutOf baseOf packClampOf inPack belowShare firstOf stateOk movedOf profileOk settingsOk registersOk cycleOk watchdogOk sampleOk setOf observeOf finishOf settledOf testsOf mayHold storeOf writeOf observedOf resetOf settleOf edgesOf merged pulseOf timesOf unitsOf bandOf cycleOf phaseOf permittedOf suspendsOf belowRecharge taperOf endingOf flagsNumber startState heldOf wordsOk rangeOf writtenTo countedOf expiredOf clearedIf startSettings resetRegisters startVsysmin takenBy forcedOf latchesOf seenOf regulatedOf clearsOf endsOf judgedOf faultOf reachedOf settingNumbers fieldsOf ranges recounted writtenRegisters gathered startVreg startIchg shortOf lowOf packOverOf restartsOf fields turnedBy changeOf followedOf writtenOf turnOf profileInRange sampleInRange seenOn ranBy startWords restoredBy withoutOverrides putIn withWord putAt expiresOf
 operators-refuted = record { point = λ d. differ 4 5 refl (d .ends (untilEnd 7900) (warmAt 7900 3) customer-past (each-tried ends .meets)) }

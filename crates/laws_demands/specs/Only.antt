@@ -5,7 +5,7 @@ use mathlib.Core.Path.{_≡_}
 use mathlib.Core.List.{List}
 use Rattle.state_parts.specs.declared.state.State.{State}
 use Rattle.state_parts.specs.declared.state.Model.{Model}
-use Rattle.state_registers.specs.Reads.{readRegisterOf}
+use Rattle.report_registers.specs.Reads.{readRegisterOf}
 use Rattle.log_number.specs.Promises.{Bytes}
 use Rattle.log_event.specs.declared.Event.{Event}
 use Rattle.report_state.specs.Report.{reportOf}

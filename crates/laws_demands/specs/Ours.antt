@@ -4,7 +4,7 @@ use mathlib.Core.List.{List}
 use lib.ListN.{length}
 use lib.Dec.{ltb}
 use Rattle.base.specs.Pick.{pick}
-use Rattle.state_registers.specs.Reads.{readRegisterOf}
+use Rattle.report_registers.specs.Reads.{readRegisterOf}
 use Rattle.report_state.specs.Report.{reportOf}
 use Rattle.report_state.specs.Stats.{statOf}
 use Rattle.step_event.specs.Steps.{stepOf}

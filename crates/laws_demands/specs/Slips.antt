@@ -2,11 +2,12 @@
 use Prim.Native.Nat.{ℕ, _*_, _/_}
 use mathlib.Core.Bool.{Bool, true, false, _&&_}
 use lib.Dec.{leb, eqb}
-use Rattle.base.specs.Pick.{pick}
+use Rattle.base.specs.Pick.{pick, bitOf}
 use Rattle.base.specs.Stamps.{elapsedOf}
-use Rattle.state_parts.specs.With.{withRegisters, withCycle, withOverrides}
+use Rattle.state_parts.specs.With.{withRegisters, withCycle, withWords}
 use Rattle.state_parts.specs.declared.profile.Profile.{Profile}
-use Rattle.state_fields.specs.Rows.{digitOf, cellOverride}
+use Rattle.state_table.specs.Rows.{digitOf, cellOverride}
+use Rattle.state_fields.specs.Held.{withField}
 use Rattle.state_parts.specs.declared.band.Band.{Band}
 use Rattle.state_parts.specs.declared.band.Band.the-variants.{Normal, Cool}
 use Rattle.state_parts.specs.declared.registers.Registers.{Registers}
@@ -36,7 +37,7 @@ use Rattle.laws_demands.specs.Wrong.{withModel}
 
 -- "Using a CELL_PIN override from the same write": it is as the written byte has it before the byte is taken
 abbrev pub withOverride : Bool → Registers → Registers
-withOverride stands g = withOverrides g (g .vchgoverride) stands (g .ichgoverride)
+withOverride stands g = withWords g (withField cellOverride (bitOf stands) (g .words))
 
 abbrev laterWritten : Later → State → State
 laterWritten (Set number value) s = s

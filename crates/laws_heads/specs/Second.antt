@@ -53,6 +53,6 @@ pub record SecondOfImages (calls : Calls) : Type 0 where
   -- "The report, the flags and STAT of the model as it stands;"
   pub report : (es : List Event) (image : List ℕ) → Moved calls es image → (r : Run) → pastOf none es ≡ some r → (part : List ℕ) → reportBytes ≤ length part
       → calls .report image part ≡ left (answered 0) (put (bytesOf (reportedAt r)) part)
-  -- "A register's byte; 6 before a power-on, then 10 for an address that isn't 0x15 to 0x1C."
+  -- "A register's byte; 6 before a power-on. Any address answers: 0xFF outside the map."
   pub register : (es : List Event) (image : List ℕ) → Moved calls es image → (address : ℕ)
       → calls .register image address ≡ byteTold (registerAt (pastOf none es) address)

@@ -1,11 +1,12 @@
 -- A state that holds what it may, and whose stamps have 32 bits, can be stored.
 use Prim.Native.Nat.{ℕ, _^_, _≤_, _<_}
-use mathlib.Core.Path.{_≡_, subst}
-use mathlib.Core.Bool.{true}
+use mathlib.Core.Path.{_≡_}
+use mathlib.Core.Bool.{true, _&&_}
 use native.Mathlib.Omega.{arith}
+use lib.Dec.{leb}
 use lib.IntN.{ℤ, pos, negsuc}
 use lib.Signed.{leZ}
-use Rattle.base.proofs.Tests.{and-iff, leb-iff, eqb-iff}
+use Rattle.base.proofs.Tests.{and-iff, leb-iff}
 use Rattle.state_parts.specs.Edges.{allFlags}
 use Rattle.state_parts.specs.Stages.{inTrickle, inPrecharge, inFast}
 use Rattle.state_parts.specs.declared.cycle.Cycle.{Cycle}
@@ -16,15 +17,15 @@ use Rattle.state_parts.specs.declared.sample.Sample.{Sample}
 use Rattle.state_parts.specs.declared.settings.Settings.{Settings}
 use Rattle.state_parts.specs.declared.watchdog.Watchdog.{Watchdog}
 use Rattle.log_number.specs.Ibat.{loggedOf}
-use Rattle.state_fields.specs.Rows.{shownOf}
-use Rattle.state_fields.proofs.Bytes.{shown-byte}
+use Rattle.state_table.specs.Rows.{fsw, frequencyOk}
+use Rattle.state_fields.specs.Held.{fieldOf, wordsOk}
+use Rattle.state_fields.proofs.Taken.{sound-whole}
 use Rattle.state_settings.specs.Kept.{settingsOk}
 use Rattle.state_settings.specs.Numbered.{settingNumbers}
 use Rattle.state_valid.specs.Holds.{profileOk, sampleOk, registersOk, cycleOk, watchdogOk}
 use Rattle.state_valid.proofs.Bounds.{profile-bounds, settings-bounds, sample-bounds, few-cells, dog-most, stages-apart, stage-below}
 use Rattle.state_valid.proofs.Wholes.{apart}
 use Rattle.c_list.specs.Numbers.{profileNumbers, settingsNumbers, registersNumbers, cycleNumbers, watchdogNumbers, sampleNumbers}
-use Rattle.c_list.specs.Promises.{Stored}
 use Rattle.laws_images.specs.Promises.{ValidStorable}
 use Rattle.laws_images.proofs.Fitting.{bit-fits, Fits, fits, all-fit}
 
@@ -40,25 +41,6 @@ sample-fits x e h =
     let i = ibat-fits (x .ibat) (k .0 .0 .0 .1) (k .0 .0 .1) in
     fits (omega arith)
 
-byte-low : (p : Profile) (a n : ℕ) → 0x15 ≤ a → a ≤ 0x1C → shownOf p a n ≡ n → n < 256
-byte-low p a n h k same = subst (λ (m : ℕ). m < 256) same (shown-byte p a n h k)
-
-stored : (s : State) → registersOk (s .profile) (s .registers) ≡ true → s .flags ≤ allFlags → Stored s
-unfolding registersOk
-stored s e h =
-    let p = s .profile in
-    let g = s .registers in
-    let k = simp (and-iff, eqb-iff) at e in
-    record {
-      r15 = byte-low p 0x15 (g .r15) (omega arith) (omega arith) (k .0 .0 .0 .0 .0 .0 .0);
-      r16 = byte-low p 0x16 (g .r16) (omega arith) (omega arith) (k .0 .0 .0 .0 .0 .0 .1);
-      r17 = byte-low p 0x17 (g .r17) (omega arith) (omega arith) (k .0 .0 .0 .0 .0 .1);
-      r18 = byte-low p 0x18 (g .r18) (omega arith) (omega arith) (k .0 .0 .0 .0 .1);
-      r19 = byte-low p 0x19 (g .r19) (omega arith) (omega arith) (k .0 .0 .0 .1);
-      r1a = byte-low p 0x1A (g .r1a) (omega arith) (omega arith) (k .0 .0 .1);
-      flags = h;
-    }
-
 profile-fits : (p : Profile) → profileOk p ≡ true → p .stamp < 2 ^ 32 → Fits (profileNumbers p)
 profile-fits p e h = let b = profile-bounds p e in fits (omega arith)
 
@@ -68,11 +50,20 @@ settings-fit p s e =
     let b = settings-bounds p s e in
     fits (omega (arith, bit-fits (s .enchg), bit-fits (s .enterm), bit-fits (s .enhiz), bit-fits (s .enextilim), bit-fits (s .disstat)))
 
-registers-fit : (s : State) → registersOk (s .profile) (s .registers) ≡ true → Stored s → Fits (registersNumbers (s .registers))
-registers-fit s e b =
+registers-fit : (s : State) → registersOk (s .profile) (s .registers) ≡ true → Fits (registersNumbers (s .registers))
+unfolding registersOk
+registers-fit s e =
+    let p = s .profile in
     let g = s .registers in
-    let c = few-cells (s .profile) g e in
-    fits (omega (arith, bit-fits (g .vchgoverride), bit-fits (g .celloverride), bit-fits (g .ichgoverride)))
+    let c = few-cells p g e in
+    let k = and-iff (wordsOk p (g .words) && frequencyOk p (fieldOf fsw g)) (leb (g .cells) 7) .0 e in
+    let w = sound-whole p (g .words) (and-iff (wordsOk p (g .words)) (frequencyOk p (fieldOf fsw g)) .0 (k .0) .0) in
+    let h0 = w .0 in
+    let h1 = w .1 .0 in
+    let h2 = w .1 .1 .0 in
+    let h3 = w .1 .1 .1 .0 in
+    let h4 = w .1 .1 .1 .1 .0 in
+    fits (omega arith)
 
 -- a limit has at most 172,800 seconds
 cycle-fits : (y : Cycle) (p : Profile) (phase : Phase) → profileOk p ≡ true → cycleOk y p phase ≡ true → Fits (cycleNumbers y)
@@ -91,14 +82,13 @@ pub valid-storable : ValidStorable
 valid-storable s ok h =
     let k = apart s ok in
     let few = leb-iff (s .flags) allFlags .0 (k .flags) in
-    let bytes = stored s (k .registers) few in
     let numbers = all-fit s (record {
       profile = profile-fits (s .profile) (k .profile) (h .0);
       settings = settings-fit (s .profile) (s .settings) (k .settings);
-      registers = registers-fit s (k .registers) bytes;
+      registers = registers-fit s (k .registers);
       cycle = cycle-fits (s .cycle) (s .profile) (s .phase) (k .profile) (k .cycle);
       watchdog = watchdog-fits (s .watchdog) (s .profile) (k .profile) (k .watchdog);
       sample = sample-fits (s .sample) (k .sample) (h .1);
       flags = omega (arith, few);
     }) in
-    (numbers, bytes)
+    (numbers, few)

@@ -1,5 +1,5 @@
 -- What loads is a model that can be stored: its numbers are words of bytes.
-use Prim.Native.Nat.{ℕ, zero, suc, _/_, _%_, _^_, _<_}
+use Prim.Native.Nat.{ℕ, zero, suc, _/_, _%_, _^_, _<_, _+_, _*_}
 use mathlib.Core.Path.{_≡_, sym, subst}
 use mathlib.Core.Bool.{Bool, true, false}
 use mathlib.Core.List.{List, [], _∷_}
@@ -18,7 +18,6 @@ use Rattle.c_words.specs.Words.{bytesOf, wordAt, wordsIn}
 use Rattle.c_words.specs.Promises.{AllWords}
 use Rattle.c_words.specs.Same.{sameBytes}
 use Rattle.c_list.specs.Back.{stateFrom}
-use Rattle.c_list.specs.Promises.{Stored}
 use Rattle.c_list.specs.Places.{stateCount}
 use Rattle.c_image.specs.Images.{modelNumbers, imageOf, modelFrom, modelIn}
 use Rattle.c_image.specs.Promises.{Storable}
@@ -59,27 +58,28 @@ module _ (all : List ℕ) (words : AllWords all) where
   bit : (i : ℕ) → bitOf (eqb (getD all i 0) 1) < 2 ^ 32
   bit i = bit-fits (eqb (getD all i 0) 1)
 
-  byte : (i : ℕ) → getD all i 0 % 256 < 2 ^ 32
-  byte i = omega arith
+  -- the halves of a word that was made of two numbers
+  low : (i : ℕ) → (getD all i 0 + getD all (i + 1) 0 * 0x100000000) % 0x100000000 < 2 ^ 32
+  low i = omega arith
+
+  high : (i : ℕ) → (getD all i 0 + getD all (i + 1) 0 * 0x100000000) / 0x100000000 < 2 ^ 32
+  high i = let a = word i in let b = word (i + 1) in omega arith
 
   made-fits : Fitting (stateFrom all)
   unfolding stateFrom settingNumbers
   made-fits = record {
     profile = fits (word 0, (word 1, (word 2, (word 3, (word 4, (word 5, (word 6, (word 7, (word 8, (word 9, tt))))))))));
     settings = fits (word 10, (word 11, (word 12, (word 13, (word 14, (word 15, (word 16, (word 17, (bit 18, (bit 19, (bit 20, (bit 21, (bit 22, (word 23, tt))))))))))))));
-    registers = fits (byte 24, (byte 25, (byte 26, (byte 27, (byte 28, (byte 29, (word 30, (bit 31, (bit 32, (bit 33, tt))))))))));
-    cycle = fits (word 39, (word 40, (word 41, (bit 42, tt))));
-    watchdog = fits (word 43, tt);
-    sample = rw (signs .again (getD all 47 0)) (fits (word 44, (word 45, (word 46, (word 47, (word 48, (word 49, tt)))))));
+    registers = fits (low 24, (high 24, (low 26, (high 26, (low 28, (high 28, (low 30, (high 30, (low 32, (high 32, (word 34, tt)))))))))));
+    cycle = fits (word 40, (word 41, (word 42, (bit 43, tt))));
+    watchdog = fits (word 44, tt);
+    sample = rw (signs .again (getD all 48 0)) (fits (word 45, (word 46, (word 47, (word 48, (word 49, (word 50, tt)))))));
     flags = omega arith;
   }
 
-  made-stored : Stored (stateFrom all)
-  unfolding stateFrom
-  made-stored = record { r15 = omega arith; r16 = omega arith; r17 = omega arith; r18 = omega arith; r19 = omega arith; r1a = omega arith; flags = omega arith }
-
   made-storable : Storable (On (stateFrom all))
-  made-storable = (all-fit (stateFrom all) made-fits, made-stored)
+  unfolding stateFrom
+  made-storable = (all-fit (stateFrom all) made-fits, omega arith)
 
 from-storable : (bytes : List ℕ) → Bytes bytes → Storable (modelFrom bytes)
 unfolding modelFrom

@@ -15,12 +15,11 @@ use Rattle.state_parts.specs.declared.state.Model.the-variants.{Off, On}
 use Rattle.log_event.specs.declared.Event.{Event}
 use Rattle.log_event.specs.declared.Event.the-variants as event
 use Rattle.log_record.specs.Promises.{Spellable}
-use Rattle.state_fields.specs.Rows.{frequencyOk}
+use Rattle.state_table.specs.Rows.{frequencyOk, fsw, digitOf}
 use Rattle.state_start.specs.Values.{startState}
 use Rattle.state_settings.specs.Ranges.{knownSetting, mayHold}
 use Rattle.state_valid.specs.Holds.{stateOk}
-use Rattle.state_registers.specs.Reads.{knownAddress}
-use Rattle.state_registers.specs.Writes.{writtenTo, writeOf}
+use Rattle.state_registers.specs.Writes.{knownAddress, writtenTo, writeOf}
 use Rattle.state_registers.specs.Resets.{resetOf}
 use Rattle.settle_all.specs.Settle.{forcedOf, settledOf, settleOf}
 use Rattle.state_parts.specs.With.{withFlags}
@@ -115,7 +114,7 @@ module _ (s : State) (h : Stamped s) where
 
   writes : (address byte : ℕ) → StampedBy (writtenOf s address byte)
   unfolding writtenOf writeOf
-  writes address byte = by (not (knownAddress address)) (not (leb byte 255)) (eqb address 0x16 && not (frequencyOk (s .profile) byte))
+  writes address byte = by (not (knownAddress address)) (not (leb byte 255)) (eqb address 0x16 && not (frequencyOk (s .profile) (digitOf fsw byte)))
     where
       by : (unknown large bad : Bool)
           → StampedBy (afterWrite (pick unknown (refused 10) (pick large (refused 5) (pick bad (refused 11) (accepted (writtenTo s address byte))))))

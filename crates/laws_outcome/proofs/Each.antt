@@ -8,6 +8,7 @@ use Rattle.log_reader.proofs.Contracts as reader
 use Rattle.log_pairs.proofs.Contracts as logs
 use Rattle.state_parts.proofs.Contracts as parts
 use Rattle.state_registers.proofs.Contracts as registers
+use Rattle.report_registers.proofs.Contracts as reads
 use Rattle.report_state.proofs.Contracts as state
 use Rattle.report_text.proofs.Contracts as text
 use Rattle.report_pages.proofs.Contracts as pages
@@ -32,6 +33,7 @@ every-call =
       log-pairs = logs.one-outcome;
       state-parts = parts.one-outcome;
       state-registers = registers.one-outcome;
+      report-registers = reads.one-outcome;
       report-state = state.one-outcome;
       report-text = text.one-outcome;
       report-pages = pages.one-outcome;

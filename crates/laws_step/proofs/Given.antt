@@ -9,7 +9,7 @@ use borrow.Author.Tests.{le-leb, lt-leb, leb-true, leb-false, ltb-true, lt-ltb, 
 use Rattle.base.specs.Pick.{pick}
 use Rattle.base.specs.Stamps.{elapsedOf}
 use Rattle.base.specs.Told.{Told, accepted, refused, answerNumber}
-use Rattle.state_fields.specs.Rows.{frequencyOk}
+use Rattle.state_table.specs.Rows.{frequencyOk, fsw, digitOf}
 use Rattle.log_event.specs.declared.spelled.SpelledProfile.{SpelledProfile}
 use Rattle.log_event.specs.declared.spelled.SpelledResistors.{SpelledResistors}
 use Rattle.log_event.specs.declared.spelled.SpelledSample.{SpelledSample}
@@ -27,8 +27,7 @@ use Rattle.step_turns.specs.Turns.{heldProfile, heldSample, opensWith, turnOf}
 use Rattle.step_turns.specs.declared.later.Later.the-variants as later
 use Rattle.step_turns.specs.declared.turn.Turn.{Turn}
 use Rattle.step_turns.specs.declared.turn.Turn.the-variants.{Opens, Follows, OpensOutside, FollowsOutside}
-use Rattle.state_registers.specs.Reads.{knownAddress}
-use Rattle.state_registers.specs.Writes.{writtenTo, writeOf}
+use Rattle.state_registers.specs.Writes.{knownAddress, writtenTo, writeOf}
 use Rattle.state_registers.proofs.Order.{address-first, then-byte, then-frequency}
 use Rattle.step_kinds.specs.Changes.{Changed}
 use Rattle.step_kinds.specs.Finish.{finishOf}
@@ -80,9 +79,9 @@ module _ (s : State) (ok : stateOk s ≡ true) where
 
   writes : (address byte : ℕ) → Says (On s) (Write address byte) (writtenOf s address byte)
   unfolding writtenOf writeOf
-  writes address byte = by (not (knownAddress address)) (not (leb byte 255)) (eqb address 0x16) (not (frequencyOk (s .profile) byte)) refl refl refl refl
+  writes address byte = by (not (knownAddress address)) (not (leb byte 255)) (eqb address 0x16) (not (frequencyOk (s .profile) (digitOf fsw byte))) refl refl refl refl
     where
-      by : (unknown large at bad : Bool) → not (knownAddress address) ≡ unknown → not (leb byte 255) ≡ large → eqb address 0x16 ≡ at → not (frequencyOk (s .profile) byte) ≡ bad
+      by : (unknown large at bad : Bool) → not (knownAddress address) ≡ unknown → not (leb byte 255) ≡ large → eqb address 0x16 ≡ at → not (frequencyOk (s .profile) (digitOf fsw byte)) ≡ bad
           → Says (On s) (Write address byte) (afterWrite (pick unknown (refused 10) (pick large (refused 5) (pick (at && bad) (refused 11) (accepted (writtenTo s address byte))))))
       by true large at bad a b c d = inr (no-address s address byte ok (refuted (knownAddress address) (among address 0x15 0x1C) a))
       by false true at bad a b c d = inr (bad-byte s address byte (among address 0x15 0x1C .0 (not-false (knownAddress address) a)) (leb-false byte 255 (not-true (leb byte 255) b)))

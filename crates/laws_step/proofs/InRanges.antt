@@ -9,7 +9,7 @@ use lib.IntN.{ℤ}
 use lib.Signed.{leZ, _≤ℤ_}
 use borrow.Author.Tests.{le-leb, eqb-true, eq-eqb, lt-leb, leb-false, not-true}
 use Rattle.base.proofs.Tests.{and-iff, leb-iff}
-use Rattle.state_fields.specs.Rows.{digitOf, fsw, frequencyOk}
+use Rattle.state_table.specs.Rows.{digitOf, fsw, frequencyOk}
 use Rattle.log_event.specs.declared.spelled.SpelledProfile.{SpelledProfile}
 use Rattle.log_event.specs.declared.spelled.SpelledResistors.{SpelledResistors}
 use Rattle.log_event.specs.declared.spelled.SpelledSample.{SpelledSample}
@@ -119,13 +119,13 @@ value-in p number value known =
     )
 
 -- "written 0 or 7"
-pub bad-frequency-is : (p : Profile) (byte : ℕ) → (not (frequencyOk p byte) ≡ true) ↔ ((digitOf fsw byte ≡ 0) ⊎ (digitOf fsw byte ≡ 7))
-bad-frequency-is p byte = (λ e. by (leb 1 (digitOf fsw byte)) refl (not-true (frequencyOk p byte) e), λ k. back k)
+pub bad-frequency-is : (p : Profile) (byte : ℕ) → (not (frequencyOk p (digitOf fsw byte)) ≡ true) ↔ ((digitOf fsw byte ≡ 0) ⊎ (digitOf fsw byte ≡ 7))
+bad-frequency-is p byte = (λ e. by (leb 1 (digitOf fsw byte)) refl (not-true (frequencyOk p (digitOf fsw byte)) e), λ k. back k)
   where
     by : (t : Bool) → leb 1 (digitOf fsw byte) ≡ t → (t && leb (digitOf fsw byte) 6) ≡ false → (digitOf fsw byte ≡ 0) ⊎ (digitOf fsw byte ≡ 7)
     by true e f = inr (omega (arith, leb-false (digitOf fsw byte) 6 f))
     by false e f = inl (omega (arith, leb-false 1 (digitOf fsw byte) e))
 
-    back : (digitOf fsw byte ≡ 0) ⊎ (digitOf fsw byte ≡ 7) → not (frequencyOk p byte) ≡ true
+    back : (digitOf fsw byte ≡ 0) ⊎ (digitOf fsw byte ≡ 7) → not (frequencyOk p (digitOf fsw byte)) ≡ true
     back (inl z) = simp (lt-leb 1 (digitOf fsw byte) (omega (arith, z)))
     back (inr z) = simp (le-leb 1 (digitOf fsw byte) (omega (arith, z)), lt-leb (digitOf fsw byte) 6 (omega (arith, z)))

@@ -16,7 +16,7 @@ use Rattle.log_event.specs.declared.Event.the-variants.{PowerOn, Set, Write, Ob
 use Rattle.log_event.specs.declared.spelled.SpelledProfile.{SpelledProfile}
 use Rattle.log_event.specs.declared.spelled.SpelledResistors.{SpelledResistors}
 use Rattle.log_event.specs.declared.spelled.SpelledSample.{SpelledSample}
-use Rattle.state_fields.specs.Rows.{digitOf, fsw}
+use Rattle.state_table.specs.Rows.{digitOf, fsw}
 use Rattle.state_settings.specs.Ranges.{lastSetting, rangeOf}
 use Rattle.state_valid.specs.Holds.{stateOk}
 

@@ -25,7 +25,8 @@ use Rattle.state_valid.proofs.Begins.{start-settings-pass}
 use Rattle.state_valid.proofs.Bounds.{profile-bounds}
 use Rattle.laws_account.specs.History.{Run}
 use Rattle.laws_account.specs.Held.{profileOf, ichg, overridden, fieldAt}
-use Rattle.state_fields.specs.Rows.{jeitaIsetc, jeitaIseth}
+use Rattle.laws_account.proofs.Fields.{small}
+use Rattle.state_table.specs.Rows.{jeitaIsetc, jeitaIseth}
 use Rattle.laws_account.specs.Valued.{settingOf}
 use Rattle.laws_account.specs.Judged.{chargeClamp, shareIn}
 use Rattle.laws_account.specs.Refused.{Accepted}
@@ -74,15 +75,15 @@ some (suc n) h = omega arith
 pub share-least : (b : Band) (r : Run) → (SuspendingIn b r → ⊥) → 20 ≤ shareIn b r
 share-least Normal r h = omega arith
 share-least Cold r h = omega arith
-share-least Cool r h = leb-true 20 _ (tested (λ (k : ℕ). leb 20 (coolShare (profileOf r) k)) 1 3 (fieldAt jeitaIsetc r) refl (some (fieldAt jeitaIsetc r) h) (omega arith))
-share-least Warm r h = leb-true 20 _ (tested (λ (k : ℕ). leb 20 (warmShare (profileOf r) k)) 0 2 (fieldAt jeitaIseth r) refl (omega arith) (omega arith))
+share-least Cool r h = leb-true 20 _ (tested (λ (k : ℕ). leb 20 (coolShare (profileOf r) k)) 1 3 (fieldAt jeitaIsetc r) refl (some (fieldAt jeitaIsetc r) h) (omega (arith, small jeitaIsetc (omega arith) r)))
+share-least Warm r h = leb-true 20 _ (tested (λ (k : ℕ). leb 20 (warmShare (profileOf r) k)) 0 2 (fieldAt jeitaIseth r) refl (omega arith) (omega (arith, small jeitaIseth (omega arith) r)))
 share-least Hot r h = omega arith
 
 pub share-most : (b : Band) (r : Run) → shareIn b r ≤ 100
 share-most Normal r = omega arith
 share-most Cold r = omega arith
-share-most Cool r = leb-true _ 100 (tested (λ (k : ℕ). leb (coolShare (profileOf r) k) 100) 0 4 (fieldAt jeitaIsetc r) refl (omega arith) (omega arith))
-share-most Warm r = leb-true _ 100 (tested (λ (k : ℕ). leb (warmShare (profileOf r) k) 100) 0 2 (fieldAt jeitaIseth r) refl (omega arith) (omega arith))
+share-most Cool r = leb-true _ 100 (tested (λ (k : ℕ). leb (coolShare (profileOf r) k) 100) 0 4 (fieldAt jeitaIsetc r) refl (omega arith) (omega (arith, small jeitaIsetc (omega arith) r)))
+share-most Warm r = leb-true _ 100 (tested (λ (k : ℕ). leb (warmShare (profileOf r) k) 100) 0 2 (fieldAt jeitaIseth r) refl (omega arith) (omega (arith, small jeitaIseth (omega arith) r)))
 share-most Hot r = omega arith
 
 -- a share of the lower of two

@@ -16,7 +16,7 @@ use Rattle.state_parts.specs.Pins.{vchgTable, vchgOf}
 use Rattle.state_parts.specs.declared.band.Band.{Band}
 use Rattle.state_parts.specs.declared.band.Band.the-variants.{Normal, Cold, Cool, Warm, Hot}
 use Rattle.state_parts.specs.declared.profile.Profile.{Profile}
-use Rattle.state_fields.specs.Rows.{jeitaVset}
+use Rattle.state_table.specs.Rows.{jeitaVset}
 use Rattle.settle_levels.proofs.Least.{highest-cut}
 use Rattle.state_valid.specs.Holds.{profileOk}
 use Rattle.state_valid.proofs.Bounds.{profile-bounds, few-cells}

@@ -1,24 +1,23 @@
 -- What is reported of the account's state: current and voltage by its phase.
-use Prim.Native.Nat.{ℕ, _*_, _/_, _≤_, _<_, min}
+use Prim.Native.Nat.{ℕ, _≤_, _<_}
 use native.Mathlib.Omega.{arith}
 use mathlib.Core.Path.{_≡_, refl, ap, _∙_}
 use mathlib.Core.Bool.{Bool, true, false, false≢true}
 use Rattle.base.specs.Pick.{pick}
-use Rattle.base.specs.Units.{inPack, lessOf}
 use Rattle.base.specs.Volts.{millivoltsOf, packOf}
 use Rattle.state_parts.specs.declared.phase.Phase.{Phase}
 use Rattle.state_parts.specs.declared.phase.Phase.the-variants.{Idle, Trickle, Precharge, Fast, Taper, Done, Suspended, Fault}
-use Rattle.settle_levels.specs.Clamps.{packClampOf, baseOf}
 use Rattle.settle_levels.specs.Voltage.{chargeVoltageOf}
 use Rattle.state_parts.specs.Stages.{charging}
-use Rattle.report_state.specs.Report.{chargeClampOf, fastCurrent, trickleCurrent, currentIn, reportOf}
+use Rattle.report_state.specs.Report.{trickleCurrent, currentIn, reportOf}
 use Rattle.laws_account.specs.History.{Run}
-use Rattle.laws_account.specs.Held.{profileOf, cellsOf}
+use Rattle.laws_account.specs.Held.{profileOf}
 use Rattle.laws_account.specs.Valued.{settingOf}
-use Rattle.laws_account.specs.Judged.{packClamp, baseAt, chargeClamp, bandAt, chargeVoltage}
+use Rattle.laws_account.specs.Judged.{bandAt}
 use Rattle.laws_account.specs.Cycles.{phaseAt}
 use Rattle.laws_account.specs.Reported.{fastAt}
-use Rattle.laws_account.proofs.Sharing.{share-is, cut-is}
+use Rattle.laws_account.proofs.Judging.{voltage-is}
+use Rattle.laws_account.proofs.Reports.{fast-is}
 use Rattle.laws_account.specs.States.{settingsAt, registersAt, stateBy, stateOf}
 use Rattle.laws_account.specs.Refused.{Accepted}
 use Rattle.laws_third.specs.Banded.{chargeTo}
@@ -27,12 +26,11 @@ use Rattle.laws_third.proofs.Charges.{stage}
 
 -- the account's share, cut and amounts are those of the report
 pub current-is : (r : Run) → reportOf (stateOf r) .current ≡ currentIn (phaseAt r) (trickleCurrent (profileOf r)) (settingOf 3 r) (fastAt r)
-unfolding reportOf fastAt stateBy settingsAt registersAt fastCurrent chargeClampOf chargeClamp
-current-is r = ap (λ share. currentIn (phaseAt r) (trickleCurrent (profileOf r)) (settingOf 3 r) (min (settingOf 2 r) (chargeClamp r) * share / 100)) (share-is (bandAt r) r)
+unfolding reportOf stateBy settingsAt
+current-is r = ap (currentIn (phaseAt r) (trickleCurrent (profileOf r)) (settingOf 3 r)) (fast-is r)
 
 charge-is : (r : Run) → Accepted r → millivoltsOf (chargeVoltageOf (profileOf r) (settingsAt r) (registersAt r) (bandAt r)) ≡ chargeTo (bandAt r) r
-unfolding chargeVoltageOf baseOf packClampOf packClamp settingsAt registersAt baseAt chargeVoltage
-charge-is r a = ap (λ c. millivoltsOf (lessOf (baseAt r) (inPack c (cellsOf r)))) (cut-is (bandAt r) r) ∙ voltage-plain r a
+charge-is r a = ap millivoltsOf (voltage-is r) ∙ voltage-plain r a
 
 abbrev pub chargeAt : Run → ℕ
 chargeAt r = chargeTo (bandAt r) r

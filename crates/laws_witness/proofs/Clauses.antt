@@ -13,7 +13,7 @@ use Rattle.state_parts.specs.declared.band.Band.the-variants.{Normal, Cold, Coo
 use Rattle.state_settings.specs.Ranges.{ranges, rangeOf}
 use Rattle.state_valid.specs.Holds.{profileOk, sampleOk}
 use Rattle.laws_account.specs.History.{Run, since, sumAfter, count, upTo}
-use Rattle.laws_account.specs.Held.{profileOf, sampleOf, elapsed, wasObserved, wasReset, wasServed, unserved, expired, ichg, overridden, cellsOf, byteOf}
+use Rattle.laws_account.specs.Held.{profileOf, sampleOf, elapsed, wasObserved, wasReset, wasServed, unserved, expired, ichg, overridden, cellsOf, fieldAt}
 use Rattle.laws_account.specs.Valued.{pinFault, startValue, settingOf}
 use Rattle.laws_account.specs.Judged.{vbat, packClamp, baseAt, inputOk, inputOver, inputGood, short, low, packOver, bandAt, suspended, chargeVoltage, permitted, tapering, rechargeDue, ending}
 use Rattle.laws_account.specs.Cycles.{trickle, precharge, fast, limitOf, reaches, unitsAfter, gave, isDone, wasDone, restarts, starts, timeIn, timeFound, limitFound, fault, chargeEnds, phaseBy, limitReached, phasesOf, phaseAt}
@@ -121,7 +121,7 @@ Computed c =
     (test c (meeting c) ≡ true) × (test c (failing c) ≡ false) × (accepts (meeting c) ≡ true) × (accepts (failing c) ≡ true)
 
 computed : (c : Clause) → Computed c
-unfolding day slow unattended mild packs inputs stays warm inPack belowShare since sumAfter count upTo profileOf sampleOf elapsed wasObserved wasReset wasServed unserved expired overridden cellsOf byteOf pinFault startValue settingOf vbat packClamp baseAt inputOk inputOver inputGood short low packOver bandAt suspended chargeVoltage permitted tapering rechargeDue ending unitsAfter gave isDone wasDone restarts starts timeIn timeFound limitFound fault chargeEnds phaseBy limitReached phasesOf phaseAt accepts refusalIn profileOk sampleOk rangeOf ranges
+unfolding day slow unattended mild packs inputs stays warm inPack belowShare since sumAfter count upTo profileOf sampleOf elapsed wasObserved wasReset wasServed unserved expired cellsOf fieldAt pinFault startValue settingOf vbat packClamp baseAt inputOk inputOver inputGood short low packOver bandAt suspended chargeVoltage permitted tapering rechargeDue ending unitsAfter gave isDone wasDone restarts starts timeIn timeFound limitFound fault chargeEnds phaseBy limitReached phasesOf phaseAt accepts refusalIn profileOk sampleOk rangeOf ranges
 computed (part goodInput) = (refl, refl, refl, refl)
 computed (part permission) = (refl, refl, refl, refl)
 computed (part noFault) = (refl, refl, refl, refl)
@@ -176,7 +176,7 @@ abbrev others : ℕ → List Bool
 others n = not (eqb n 0) ∷ not (eqb n 1) ∷ not (eqb n 2) ∷ not (eqb n 3) ∷ not (eqb n 4) ∷ not (eqb n 5) ∷ []
 
 stopped-tests : (c : Part) → partTests (stopped c) ≡ others (placeOf c)
-unfolding day slow unattended mild packs inputs stays inPack belowShare since sumAfter count upTo profileOf sampleOf elapsed wasObserved wasReset wasServed unserved expired overridden cellsOf byteOf pinFault startValue settingOf vbat packClamp baseAt inputOk inputOver inputGood short low packOver bandAt suspended chargeVoltage permitted tapering rechargeDue ending unitsAfter gave isDone wasDone restarts starts timeIn timeFound limitFound fault chargeEnds phaseBy limitReached phasesOf phaseAt
+unfolding day slow unattended mild packs inputs stays inPack belowShare since sumAfter count upTo profileOf sampleOf elapsed wasObserved wasReset wasServed unserved expired cellsOf fieldAt pinFault startValue settingOf vbat packClamp baseAt inputOk inputOver inputGood short low packOver bandAt suspended chargeVoltage permitted tapering rechargeDue ending unitsAfter gave isDone wasDone restarts starts timeIn timeFound limitFound fault chargeEnds phaseBy limitReached phasesOf phaseAt
 stopped-tests goodInput = refl
 stopped-tests permission = refl
 stopped-tests noFault = refl

@@ -11,6 +11,8 @@ use Rattle.state_parts.specs.Stages.{charging}
 use Rattle.state_parts.specs.declared.band.Band.{Band}
 use Rattle.state_parts.specs.declared.phase.Phase.{Phase}
 use Rattle.state_parts.specs.declared.phase.Phase.the-variants.{Idle, Trickle, Precharge, Fast, Taper, Done, Suspended, Fault}
+use Rattle.state_table.specs.Rows.{ichgOverride}
+use Rattle.state_fields.specs.Held.{isSet}
 use Rattle.state_parts.specs.declared.profile.Profile.{Profile}
 use Rattle.state_parts.specs.declared.registers.Registers.{Registers}
 use Rattle.state_parts.specs.declared.settings.Settings.{Settings}
@@ -19,7 +21,7 @@ use Rattle.report_state.specs.declared.answer.Report.{Report}
 
 -- "Charge clamp: ichg's value; with override 3,300."
 unfoldable pub chargeClampOf : Profile → Registers → ℕ
-chargeClampOf p g = pick (g .ichgoverride) 3300 (ichgOf p)
+chargeClampOf p g = pick (isSet ichgOverride g) 3300 (ichgOf p)
 
 -- "else the lower of ICHG and clamp, times 20, 40, 100% in cool (ISETC 1-3), 40 or 100% in warm"
 unfoldable pub fastCurrent : Profile → Settings → Registers → Band → ℕ

@@ -8,6 +8,7 @@ use base::choice;
 use base::volts;
 use settle_bands::effect;
 use settle_levels::voltage;
+use state_fields::named;
 use state_parts::band::Band;
 use state_parts::phase;
 use state_parts::phase::Phase;
@@ -27,7 +28,7 @@ fn lower(first: u32, second: u32) -> u32
 fn charge_clamp(profile: Profile, registers: Registers) -> u32
     ensures { λ r. ⌜ r ≡ chargeClampOf profile registers ⌝ }
 {
-    let lifted = registers.ichgoverride;
+    let lifted = named::ichg_override(registers);
     let pin = pins::ichg(profile);
     choice::number(lifted, 3300, pin)
 }

@@ -6,7 +6,7 @@ use borrow.Author.Tests.{le-leb, lt-leb}
 use lib.Dec.{leb, leb→le}
 use Rattle.base.proofs.Table.{at}
 use Rattle.state_fields.specs.Held.{fieldOf}
-use Rattle.state_fields.specs.Rows.{tsTh1, tsTh5}
+use Rattle.state_table.specs.Rows.{tsTh1, tsTh5}
 use Rattle.state_parts.specs.declared.profile.Profile.{Profile}
 use Rattle.state_parts.specs.declared.registers.Registers.{Registers}
 use Rattle.settle_bands.specs.Thresholds.{th1Of, th5Of, bandOf}

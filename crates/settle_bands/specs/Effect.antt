@@ -7,7 +7,7 @@ use lib.Dec.{eqb}
 use Rattle.base.specs.Pick.{pick}
 use Rattle.base.specs.declared.units.CellMv.{CellMv}
 use Rattle.state_fields.specs.Held.{fieldOf}
-use Rattle.state_fields.specs.Rows.{jeitaIsetc, jeitaIseth, jeitaVset}
+use Rattle.state_table.specs.Rows.{jeitaIsetc, jeitaIseth, jeitaVset}
 use Rattle.state_parts.specs.declared.band.Band.{Band}
 use Rattle.state_parts.specs.declared.band.Band.the-variants.{Normal, Cold, Cool, Warm, Hot}
 use Rattle.state_parts.specs.declared.profile.Profile.{Profile}

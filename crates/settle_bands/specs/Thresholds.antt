@@ -6,7 +6,7 @@ use lib.ListN.{getD}
 use lib.Dec.{leb, eqb}
 use Rattle.base.specs.Pick.{pick}
 use Rattle.state_fields.specs.Held.{fieldOf}
-use Rattle.state_fields.specs.Rows.{tsTh1, tsTh2, tsTh3, tsTh5, enTs, enJeita}
+use Rattle.state_table.specs.Rows.{tsTh1, tsTh2, tsTh3, tsTh5, enTs, enJeita}
 use Rattle.state_parts.specs.declared.band.Band.{Band}
 use Rattle.state_parts.specs.declared.band.Band.the-variants.{Normal, Cold, Cool, Warm, Hot}
 use Rattle.state_parts.specs.declared.profile.Profile.{Profile}

@@ -12,10 +12,12 @@ use Rattle.base.specs.Volts.{packOf}
 use Rattle.base.specs.declared.units.PackMv.{PackMv}
 use Rattle.base.proofs.Table.{table-most}
 use Rattle.state_fields.specs.Held.{fieldOf}
-use Rattle.state_fields.specs.Rows.{jeitaVset}
+use Rattle.state_table.specs.Rows.{jeitaVset}
 use Rattle.state_parts.specs.Pins.{vchgOf}
 use Rattle.state_parts.proofs.Codes.{least-pin}
 use Rattle.state_parts.specs.declared.band.Band.{Band}
+use Rattle.state_fields.specs.Held.{isSet}
+use Rattle.state_table.specs.Rows.{vchgOverride, ichgOverride}
 use Rattle.state_parts.specs.declared.profile.Profile.{Profile}
 use Rattle.state_parts.specs.declared.registers.Registers.{Registers}
 use Rattle.state_parts.specs.declared.settings.Settings.{Settings}
@@ -47,25 +49,25 @@ pinned false true true other e = (refl, λ l. absurd (true≢false l))
 pinned false false lifted other e = (refl, λ l. refl)
 
 module _ (p : Profile) (g : Registers) (sound : faultOf p g ≡ false) where
-  pins : (eqb (g .cells) 0 ≡ false) × (g .vchgoverride ≡ false → eqb (p .vchg) 0 ≡ false)
+  pins : (eqb (g .cells) 0 ≡ false) × (isSet vchgOverride g ≡ false → eqb (p .vchg) 0 ≡ false)
   unfolding faultOf
-  pins = pinned (eqb (g .cells) 0) (eqb (p .vchg) 0) (g .vchgoverride) (eqb (p .ichg) 0 && not (g .ichgoverride)) sound
+  pins = pinned (eqb (g .cells) 0) (eqb (p .vchg) 0) (isSet vchgOverride g) (eqb (p .ichg) 0 && not (isSet ichgOverride g)) sound
 
   pub some-cell : 1 ≤ g .cells
   some-cell = omega (arith, eqb-false (g .cells) 0 (pins .0))
 
-  some-code : g .vchgoverride ≡ false → 1 ≤ p .vchg
+  some-code : isSet vchgOverride g ≡ false → 1 ≤ p .vchg
   some-code e = omega (arith, eqb-false (p .vchg) 0 (pins .1 e))
 
 module _ (p : Profile) (s : Settings) (g : Registers) (k : PartsPass p s g) (sound : faultOf p g ≡ false) where
   -- what a cell may be charged to
-  each-least : (lifted : Bool) → g .vchgoverride ≡ lifted → 3500 ≤ pick lifted (record { 0 = p .ceiling }) (vchgOf p) .0
+  each-least : (lifted : Bool) → isSet vchgOverride g ≡ lifted → 3500 ≤ pick lifted (record { 0 = p .ceiling }) (vchgOf p) .0
   each-least true e = let b = profile-bounds p (k .profile) in omega (arith, b .ceilingLeast)
   each-least false e = least-pin p (some-code p g sound e) (profile-bounds p (k .profile) .vchg)
 
   clamp-least : 3500 ≤ packClampOf p g .0
   unfolding packClampOf inPack
-  clamp-least = let m = mul-le-mul (each-least (g .vchgoverride) refl) (some-cell p g sound) in omega arith
+  clamp-least = let m = mul-le-mul (each-least (isSet vchgOverride g) refl) (some-cell p g sound) in omega arith
 
   base-least : 2400 ≤ baseOf p s g .0
   unfolding baseOf

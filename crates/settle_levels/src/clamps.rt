@@ -4,6 +4,7 @@ ghost use Rattle.settle_levels.specs.Clamps.{faultOf, packClampOf, baseO
 use base::units;
 use base::units::CellMv;
 use base::units::PackMv;
+use state_fields::named;
 use state_parts::pins;
 use state_parts::profile::Profile;
 use state_parts::registers::Registers;
@@ -13,16 +14,17 @@ use state_parts::settings::Settings;
 pub fn pin_fault(profile: Profile, registers: Registers) -> bool
     ensures { λ r. ⌜ r ≡ faultOf profile registers ⌝ }
 {
-    (registers.cells == 0)
-        | ((profile.vchg == 0) & !registers.vchgoverride)
-        | ((profile.ichg == 0) & !registers.ichgoverride)
+    let cells = registers.cells;
+    let vchg = named::vchg_override(registers);
+    let ichg = named::ichg_override(registers);
+    (cells == 0) | ((profile.vchg == 0) & !vchg) | ((profile.ichg == 0) & !ichg)
 }
 
 // What the pack may be charged to at most.
 fn pack_clamp(profile: Profile, registers: Registers) -> PackMv
     ensures { λ r. ⌜ r ≡ packClampOf profile registers ⌝ }
 {
-    let lifted = registers.vchgoverride;
+    let lifted = named::vchg_override(registers);
     let cells = registers.cells;
     let ceiling = CellMv(profile.ceiling);
     let pin = pins::vchg(profile);

@@ -1,3 +1,10 @@
 -- The crate's laws.
-pub mod Stacks
-pub mod Bytes
+pub mod Puts
+pub mod Maps
+pub mod Fields
+pub mod Gathers
+pub mod Sound
+pub mod Taken
+pub mod Restores
+pub mod Turns
+pub mod Gaps

@@ -1,57 +1,58 @@
--- Which byte the registers hold at which address, read and stored; and a field of them by its name.
-use Prim.Native.Nat.{ℕ, _+_}
-use mathlib.Core.Bool.{Bool}
+-- What the registers hold of a field, by its row of the table; and the stored fields of a register that is written.
+use Prim.Native.Nat.{ℕ}
+use mathlib.Core.Bool.{Bool, _&&_}
+use mathlib.Core.List.{List}
 use lib.Dec.{eqb}
-use Rattle.base.specs.Pick.{pick, bitOf}
+use Rattle.base.specs.Pick.{pick}
 use Rattle.state_parts.specs.declared.profile.Profile.{Profile}
 use Rattle.state_parts.specs.declared.registers.Registers.{Registers}
-use Rattle.state_fields.specs.Rows.{Field, digitOf, shifted, vchgOverride, cellOverride, vchgPin, cellPin, ichgOverride, ichgPin}
+use Rattle.state_parts.specs.declared.words.Words.{Words}
+use Rattle.state_table.specs.Rows.{Field, fieldsOf, over, bitOf, digitOf, isStored, vchgOverride, cellOverride, ichgOverride}
+use Rattle.state_fields.specs.Words.{bitsIn, putIn, noWords}
 
--- The sheet, tables 6-34 and 6-35, without VCHG_PIN and ICHG_PIN: those codes stand in the profile.
-abbrev pub stored1B : Registers → ℕ
-stored1B g = shifted vchgOverride (bitOf (g .vchgoverride)) + shifted cellOverride (bitOf (g .celloverride)) + shifted cellPin (g .cells)
+-- a field's code, and the words with another code in it
+abbrev pub fieldIn : Field → Words → ℕ
+fieldIn f w = bitsIn (bitOf f) (f .width) w
 
-abbrev pub stored1C : Registers → ℕ
-stored1C g = shifted ichgOverride (bitOf (g .ichgoverride))
-
--- the byte that the registers hold at an address; 0 if they hold none
-abbrev pub storedAt : Registers → ℕ → ℕ
-storedAt g address =
-    pick (eqb address 0x15) (g .r15)
-    (pick (eqb address 0x16) (g .r16)
-    (pick (eqb address 0x17) (g .r17)
-    (pick (eqb address 0x18) (g .r18)
-    (pick (eqb address 0x19) (g .r19)
-    (pick (eqb address 0x1A) (g .r1a)
-    (pick (eqb address 0x1B) (stored1B g)
-    (pick (eqb address 0x1C) (stored1C g) 0)))))))
-
--- the byte of 0x1B and 0x1C with the pin codes of the profile
-abbrev pub byte1B : Profile → Registers → ℕ
-byte1B p g = stored1B g + shifted vchgPin (p .vchg)
-
-abbrev pub byte1C : Profile → Registers → ℕ
-byte1C p g = stored1C g + shifted ichgPin (p .ichg)
-
--- the byte that stands at an address
-abbrev pub standsAt : Profile → Registers → ℕ → ℕ
-standsAt p g address = pick (eqb address 0x1B) (byte1B p g) (pick (eqb address 0x1C) (byte1C p g) (storedAt g address))
+abbrev pub withField : Field → ℕ → Words → Words
+withField f code w = putIn (bitOf f) (f .width) code w
 
 -- a field's value, by its name
 abbrev pub fieldOf : Field → Registers → ℕ
-fieldOf f g = digitOf f (storedAt g (f .address))
+fieldOf f g = fieldIn f (g .words)
 
--- a byte that stands at an address now, taken apart into what the registers hold; `count` says that a written count is taken
-unfoldable pub withByte : Bool → Registers → ℕ → ℕ → Registers
-withByte count g address byte = record {
-  r15 = pick (eqb address 0x15) byte (g .r15);
-  r16 = pick (eqb address 0x16) byte (g .r16);
-  r17 = pick (eqb address 0x17) byte (g .r17);
-  r18 = pick (eqb address 0x18) byte (g .r18);
-  r19 = pick (eqb address 0x19) byte (g .r19);
-  r1a = pick (eqb address 0x1A) byte (g .r1a);
-  cells = pick count (digitOf cellPin byte) (g .cells);
-  vchgoverride = pick (eqb address 0x1B) (eqb (digitOf vchgOverride byte) 1) (g .vchgoverride);
-  celloverride = pick (eqb address 0x1B) (eqb (digitOf cellOverride byte) 1) (g .celloverride);
-  ichgoverride = pick (eqb address 0x1C) (eqb (digitOf ichgOverride byte) 1) (g .ichgoverride);
-}
+-- a field of one bit that is 1
+abbrev pub isSet : Field → Registers → Bool
+isSet f g = eqb (fieldOf f g) 1
+
+-- some fields take these codes, one after the other, and all others stand
+abbrev pub puts : (Field → Bool) → (Field → ℕ) → List Field → Words → Words
+puts on code fs w = over on (λ (v : Words) (f : Field). withField f (code f) v) fs w
+
+-- the stored fields with these codes, and every other bit 0
+unfoldable pub gathered : Profile → (Field → ℕ) → Words
+gathered p code = puts (λ (f : Field). isStored (f .access)) code (fieldsOf p) noWords
+
+-- the stored fields of a register take their codes of a written value
+unfoldable pub takenBy : Profile → ℕ → ℕ → Words → Words
+takenBy p address value w =
+    puts (λ (f : Field). isStored (f .access) && eqb (f .address) address) (λ (f : Field). digitOf f value) (fieldsOf p) w
+
+-- what they start with
+unfoldable pub startWords : Profile → Words
+startWords p = gathered p (λ (f : Field). f .reset)
+
+-- "Register reset restores .. the resets above": those that the sheet marks; the others stand
+unfoldable pub restoredBy : Profile → Words → Words
+restoredBy p w = gathered p (λ (f : Field). pick (f .restored) (f .reset) (fieldIn f w))
+
+-- "Reserved .. bits ignore writes; reserved read 0": a bit that is no stored field's is 0, so that words are what their own stored fields come to
+abbrev pub sameWords : Words → Words → Bool
+sameWords a b = eqb (a .w0) (b .w0) && eqb (a .w1) (b .w1) && eqb (a .w2) (b .w2) && eqb (a .w3) (b .w3) && eqb (a .w4) (b .w4)
+
+unfoldable pub wordsOk : Profile → Words → Bool
+wordsOk p w = sameWords w (gathered p (λ (f : Field). fieldIn f w))
+
+-- "all three overrides clear"
+unfoldable pub withoutOverrides : Words → Words
+withoutOverrides w = withField ichgOverride 0 (withField vchgOverride 0 (withField cellOverride 0 w))

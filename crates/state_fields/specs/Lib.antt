@@ -1,3 +1,3 @@
 -- The crate's definitions.
-pub mod Rows
+pub mod Words
 pub mod Held

@@ -9,6 +9,7 @@ use Rattle.state_parts.specs.declared.sample.Sample.{Sample}
 use Rattle.state_parts.specs.declared.settings.Settings.{Settings}
 use Rattle.state_parts.specs.declared.state.State.{State}
 use Rattle.state_parts.specs.declared.watchdog.Watchdog.{Watchdog}
+use Rattle.state_parts.specs.declared.words.Words.{Words}
 
 abbrev pub withSettings : State → Settings → State
 withSettings s t = record {
@@ -145,45 +146,8 @@ withVolts t vreg vsysmin = record {
   masks = t .masks;
 }
 
-abbrev pub withR19 : Registers → ℕ → Registers
-withR19 g byte = record {
-  r15 = g .r15;
-  r16 = g .r16;
-  r17 = g .r17;
-  r18 = g .r18;
-  r19 = byte;
-  r1a = g .r1a;
-  cells = g .cells;
-  vchgoverride = g .vchgoverride;
-  celloverride = g .celloverride;
-  ichgoverride = g .ichgoverride;
-}
-
 abbrev pub withCells : Registers → ℕ → Registers
-withCells g cells = record {
-  r15 = g .r15;
-  r16 = g .r16;
-  r17 = g .r17;
-  r18 = g .r18;
-  r19 = g .r19;
-  r1a = g .r1a;
-  cells = cells;
-  vchgoverride = g .vchgoverride;
-  celloverride = g .celloverride;
-  ichgoverride = g .ichgoverride;
-}
+withCells g cells = record { words = g .words; cells = cells }
 
--- the overrides of VCHG, CELL and ICHG
-abbrev pub withOverrides : Registers → Bool → Bool → Bool → Registers
-withOverrides g vchg cell ichg = record {
-  r15 = g .r15;
-  r16 = g .r16;
-  r17 = g .r17;
-  r18 = g .r18;
-  r19 = g .r19;
-  r1a = g .r1a;
-  cells = g .cells;
-  vchgoverride = vchg;
-  celloverride = cell;
-  ichgoverride = ichg;
-}
+abbrev pub withWords : Registers → Words → Registers
+withWords g words = record { words = words; cells = g .cells }

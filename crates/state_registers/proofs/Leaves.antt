@@ -1,7 +1,10 @@
 -- What a register reset leaves, and what it restores.
-use Prim.Native.Nat.{_/_, _%_}
+use Prim.Native.Nat.{ℕ, _%_, _^_, _<_}
 use mathlib.Core.Path.{_≡_, refl}
-use native.Mathlib.Omega.{arith}
+use Rattle.base.specs.Pick.{pick}
+use Rattle.state_fields.specs.Held.{fieldIn, fieldOf, restoredBy}
+use Rattle.state_fields.proofs.Gathers.{nth, stored, gathered-field}
+use Rattle.state_table.specs.Rows.{Field}
 use Rattle.state_parts.specs.declared.state.State.{State}
 use Rattle.state_registers.specs.Resets.{resetRegisters, resetOf}
 
@@ -21,7 +24,7 @@ module _ (s : State) where
   unfolding resetOf
   leaves-latches = refl
 
-  -- "and 0x19 bit 7": the other bits of 0x19 are its reset's
-  pub leaves-bit : (resetOf s .registers .r19 / 128 ≡ s .registers .r19 / 128) × (resetOf s .registers .r19 % 128 ≡ 0x57)
-  unfolding resetOf resetRegisters
-  leaves-bit = (omega arith, omega arith)
+  -- "and 0x19 bit 7", and the other stored fields that the sheet doesn't mark: all others have their resets
+  pub leaves-fields : (i : ℕ) → i < 147 → fieldOf (nth i) (resetOf s .registers) ≡ pick (stored (nth i)) (pick (nth i .restored) (nth i .reset) (fieldOf (nth i) (s .registers)) % 2 ^ nth i .width) 0
+  unfolding resetOf resetRegisters restoredBy
+  leaves-fields i h = gathered-field (s .profile) (λ (f : Field). pick (f .restored) (f .reset) (fieldIn f (s .registers .words))) i h

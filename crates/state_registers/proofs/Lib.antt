@@ -1,6 +1,5 @@
 -- The crate's laws.
-pub mod Small
-pub mod ReadBack
+pub mod Fields
 pub mod Order
 pub mod Leaves
 pub mod Keeps

@@ -5,11 +5,11 @@ use mathlib.Core.Bool.{Bool, true, false, not, _&&_}
 use lib.Dec.{leb, eqb}
 use Rattle.base.specs.Pick.{pick}
 use Rattle.base.specs.Told.{accepted, refused, answerNumber}
-use Rattle.state_fields.specs.Rows.{cellPin, digitOf, frequencyOk}
+use Rattle.state_fields.specs.Held.{isSet}
+use Rattle.state_table.specs.Rows.{cellPin, cellOverride, fsw, digitOf, frequencyOk}
 use Rattle.state_parts.specs.declared.registers.Registers.{Registers}
 use Rattle.state_parts.specs.declared.state.State.{State}
-use Rattle.state_registers.specs.Reads.{knownAddress, readOf}
-use Rattle.state_registers.specs.Writes.{countTaken, writtenTo, writeOf}
+use Rattle.state_registers.specs.Writes.{knownAddress, countTaken, writtenTo, writeOf}
 
 -- "10, 5, 11 for writes"
 abbrev pub refusalOf : Bool → Bool → Bool → ℕ
@@ -23,9 +23,9 @@ module _ (s : State) (a b : ℕ) where
   numbers false false true after = refl
   numbers false false false after = refl
 
-  pub write-number : answerNumber (writeOf s a b) ≡ refusalOf (not (knownAddress a)) (not (leb b 255)) (eqb a 0x16 && not (frequencyOk (s .profile) b))
+  pub write-number : answerNumber (writeOf s a b) ≡ refusalOf (not (knownAddress a)) (not (leb b 255)) (eqb a 0x16 && not (frequencyOk (s .profile) (digitOf fsw b)))
   unfolding writeOf
-  write-number = numbers (not (knownAddress a)) (not (leb b 255)) (eqb a 0x16 && not (frequencyOk (s .profile) b)) (writtenTo s a b)
+  write-number = numbers (not (knownAddress a)) (not (leb b 255)) (eqb a 0x16 && not (frequencyOk (s .profile) (digitOf fsw b))) (writtenTo s a b)
 
   -- a bad address is 10 before a bad byte is 5
   pub address-first : knownAddress a ≡ false → writeOf s a b ≡ refused 10
@@ -36,26 +36,22 @@ module _ (s : State) (a b : ℕ) where
   unfolding writeOf
   then-byte e f = simp (e, f)
 
-  pub then-frequency : knownAddress a ≡ true → leb b 255 ≡ true → (eqb a 0x16 && not (frequencyOk (s .profile) b)) ≡ true → writeOf s a b ≡ refused 11
+  pub then-frequency : knownAddress a ≡ true → leb b 255 ≡ true → (eqb a 0x16 && not (frequencyOk (s .profile) (digitOf fsw b))) ≡ true → writeOf s a b ≡ refused 11
   unfolding writeOf
   then-frequency e f g = simp (e, f, g)
 
-  pub else-stored : knownAddress a ≡ true → leb b 255 ≡ true → (eqb a 0x16 && not (frequencyOk (s .profile) b)) ≡ false → writeOf s a b ≡ accepted (writtenTo s a b)
+  pub else-stored : knownAddress a ≡ true → leb b 255 ≡ true → (eqb a 0x16 && not (frequencyOk (s .profile) (digitOf fsw b))) ≡ false → writeOf s a b ≡ accepted (writtenTo s a b)
   unfolding writeOf
   else-stored e f g = simp (e, f, g)
 
-  pub read-first : knownAddress a ≡ false → readOf s a ≡ refused 10
-  unfolding readOf
-  read-first e = simp e
-
 -- "only if CELL_PIN_OVERRIDE stood before the write": whatever the byte says
-pub needs-override : (g : Registers) (a b : ℕ) → g .celloverride ≡ false → countTaken g a b ≡ false
+pub needs-override : (g : Registers) (a b : ℕ) → isSet cellOverride g ≡ false → countTaken g a b ≡ false
 needs-override g a b e = by (eqb a 0x1B)
   where
-    by : (t : Bool) → (t && g .celloverride && not (eqb (digitOf cellPin b) 0) && not (eqb (digitOf cellPin b) (g .cells))) ≡ false
+    by : (t : Bool) → (t && isSet cellOverride g && not (eqb (digitOf cellPin b) 0) && not (eqb (digitOf cellPin b) (g .cells))) ≡ false
     by true = simp e
     by false = refl
 
 -- if it stood, a byte that clears it still brings its count
-pub takes-count : (g : Registers) (b : ℕ) → g .celloverride ≡ true → countTaken g 0x1B b ≡ (not (eqb (digitOf cellPin b) 0) && not (eqb (digitOf cellPin b) (g .cells)))
+pub takes-count : (g : Registers) (b : ℕ) → isSet cellOverride g ≡ true → countTaken g 0x1B b ≡ (not (eqb (digitOf cellPin b) 0) && not (eqb (digitOf cellPin b) (g .cells)))
 takes-count g b e = simp e

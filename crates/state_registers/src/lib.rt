@@ -1,4 +1,3 @@
-// The eight registers 0x15-0x1C: read, written and reset.
-pub mod reading;
+// Registers: written and reset.
 pub mod resetting;
 pub mod writing;

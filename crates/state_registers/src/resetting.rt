@@ -2,24 +2,21 @@
 ghost use mathlib.Core.Path.{_≡_};
 ghost use Rattle.state_registers.specs.Resets.{resetRegisters};
 ghost use Rattle.state_registers.specs.Contracts.{ResetPromise};
-use state_fields::digits;
+use state_fields::holding::restored;
 use state_parts::profile::Profile;
 use state_parts::registers::Registers;
 use state_parts::state::State;
 use state_start::start_cycle;
-use state_start::start_registers;
 use state_start::start_settings;
 use state_start::start_watchdog;
 
-// The registers after a reset: the cell count and EN_BYPASS_LL_EXIT (0x19 bit 7) stay.
+// The registers after a reset: the cell count stays, and what the sheet doesn't mark.
 fn restore(p: Profile, g: Registers) -> Registers
     ensures { λ r. ⌜ r ≡ resetRegisters p g ⌝ }
 {
-    let start = start_registers(p);
-    let r19 = digits::keep_bypass(g.r19, start.r19);
-    let mut n = start;
-    n.r19 = r19;
-    n.cells = g.cells;
+    let words = restored(p, g.words);
+    let mut n = g;
+    n.words = words;
     n
 }
 

@@ -2,15 +2,14 @@
 ghost use mathlib.Core.Path.{_≡_};
 ghost use Rattle.base.specs.Pick.{pick};
 ghost use Rattle.base.specs.Told.{accepted, refused};
-ghost use Rattle.state_registers.specs.Writes.{writeTold, countTaken, recounted, writtenTo};
+ghost use Rattle.state_registers.specs.Writes.{writeTold, knownAddress, countTaken, recounted, writtenTo};
 ghost use Rattle.state_registers.specs.Contracts.{WritePromise};
-use crate::reading::byte_at;
-use crate::reading::known;
+use base::choice;
 use base::refusal::Refusal;
 use base::units::in_pack;
 use base::volts;
-use state_fields::digits;
-use state_fields::held;
+use state_fields::named;
+use state_fields::taking::taken;
 use state_parts::pins;
 use state_parts::profile::Profile;
 use state_parts::registers::Registers;
@@ -23,13 +22,20 @@ pub enum WriteAnswer {
     Refused(Refusal),
 }
 
+// One of the eight addresses.
+fn known(address: u32) -> bool
+    ensures { λ r. ⌜ r ≡ knownAddress address ⌝ }
+{
+    (0x15 <= address) & (address <= 0x1C)
+}
+
 // A written cell count is taken.
-fn count_taken(g: Registers, address: u32, byte: u8) -> bool
+fn count_taken(g: Registers, address: u32, byte: u32) -> bool
     ensures { λ r. ⌜ r ≡ countTaken g address byte ⌝ }
 {
-    let overridden = g.celloverride;
+    let overridden = named::cell_override(g);
     let cells = g.cells;
-    let count = digits::cell_pin(byte);
+    let count = byte / 1 % 8;
     (address == 0x1B) & overridden & !(count == 0) & !(count == cells)
 }
 
@@ -56,16 +62,19 @@ fn either(test: bool, one: Settings, other: Settings) -> Settings
 }
 
 // The state after a write that isn't refused.
-fn written(s: State, address: u32, byte: u8) -> State
+fn written(s: State, address: u32, byte: u32) -> State
     ensures { λ r. ⌜ r ≡ writtenTo s address byte ⌝ }
 {
-    let cells = digits::cell_pin(byte);
-    let count = count_taken(s.registers, address, byte);
-    let stood = byte_at(s, address);
-    let taken = state_fields::taken(s.profile, count, address, stood, byte);
-    let anew = recount(s.profile, cells, s.settings);
+    let held = s.registers;
+    let count = count_taken(held, address, byte);
+    let anew = recount(s.profile, byte / 1 % 8, s.settings);
     let settings = either(count, anew, s.settings);
-    let registers = held::with_byte(count, s.registers, address, taken);
+    let words = taken(s.profile, held.words, address, byte);
+    let cells = choice::number(count, byte / 1 % 8, held.cells);
+    let registers = Registers {
+        words: words,
+        cells: cells,
+    };
     let mut n = s;
     n.settings = settings;
     n.registers = registers;
@@ -92,9 +101,9 @@ fn answered(unknown: bool, large: bool, bad: bool, after: State) -> WriteAnswer
 pub fn write(s: State, address: u32, byte: u32) -> WriteAnswer
     ensures { λ r. ⌜ WritePromise s address byte r ⌝ }
 {
-    let small = (byte % 256) as u8;
     let there = known(address);
-    let legal = state_fields::frequency_ok(s.profile, small);
-    let after = written(s, address, small);
+    let code = byte / 1 % 8;
+    let legal = (1 <= code) & (code <= 6);
+    let after = written(s, address, byte);
     answered(!there, !(byte <= 255), (address == 0x16) & !legal, after)
 }

@@ -7,6 +7,7 @@ use Rattle.base.specs.Pick.{pick}
 use Rattle.base.specs.Units.{inPack}
 use Rattle.base.specs.Volts.{packOf}
 use Rattle.base.specs.declared.units.PackMv.{PackMv}
+use Rattle.state_fields.specs.Held.{startWords}
 use Rattle.state_parts.specs.Edges.{noFlags}
 use Rattle.state_parts.specs.Pins.{vchgOf, ichgOf}
 use Rattle.state_parts.specs.declared.band.Band.the-variants.{Normal}
@@ -54,18 +55,7 @@ startSettings p cells = record {
 
 -- "Resets: 00 E1 AA 95 D7 40; 0x1B and 0x1C start with pin codes, overrides 0."
 abbrev pub startRegisters : Profile → Registers
-startRegisters p = record {
-  r15 = 0x00;
-  r16 = 0xE1;
-  r17 = 0xAA;
-  r18 = 0x95;
-  r19 = 0xD7;
-  r1a = 0x40;
-  cells = p .cell;
-  vchgoverride = false;
-  celloverride = false;
-  ichgoverride = false;
-}
+startRegisters p = record { words = startWords p; cells = p .cell }
 
 -- "before the first observation after a power-on it is TS 55,000 and zeros"; its stamp is the power-on's
 abbrev pub startSample : Profile → Sample

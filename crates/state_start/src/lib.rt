@@ -8,6 +8,7 @@ use base::units::PackMv;
 use base::units::in_pack;
 use base::volts::either;
 use base::volts::pack;
+use state_fields::holding::start_words;
 use state_parts::band::Band;
 use state_parts::cycle::Cycle;
 use state_parts::latches::Latches;
@@ -80,17 +81,10 @@ pub fn start_settings(p: Profile, cells: u32) -> Settings
 pub fn start_registers(p: Profile) -> Registers
     ensures { λ r. ⌜ r ≡ startRegisters p ⌝ }
 {
+    let words = start_words(p);
     Registers {
-        r15: 0x00,
-        r16: 0xE1,
-        r17: 0xAA,
-        r18: 0x95,
-        r19: 0xD7,
-        r1a: 0x40,
+        words: words,
         cells: p.cell,
-        vchgoverride: false,
-        celloverride: false,
-        ichgoverride: false,
     }
 }
 

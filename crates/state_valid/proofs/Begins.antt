@@ -6,7 +6,10 @@ use native.Mathlib.Omega.{arith}
 use borrow.Author.Tests.{le-leb, lt-ltb, ne-eqb}
 use Rattle.base.specs.Units.{inPack}
 use Rattle.base.proofs.Span.{tested, allOf}
-use Rattle.state_fields.specs.Rows.{fields, fieldsAt, shownOf, resetByte}
+use Rattle.state_table.specs.Rows.{Field, fields, fieldsOf, fsw, frequencyOk}
+use Rattle.state_fields.specs.Words.{putAt, withWord, putIn}
+use Rattle.state_fields.specs.Held.{fieldIn, gathered, startWords}
+use Rattle.state_fields.proofs.Sound.{gathered-sound}
 use Rattle.state_start.proofs.Anchors.{coded}
 use Rattle.state_start.specs.Values.{startVreg, startIchg, startVsysmin, startSettings, startRegisters, startSample, startCycle, startWatchdog, startState}
 use Rattle.state_parts.specs.Stages.{limitUnits}
@@ -46,15 +49,14 @@ module _ (p : Profile) (cells : ℕ) (v : p .vchg ≤ 7) (i : p .ichg ≤ 7) (c 
   unfolding settingsOk startSettings heldOf settingNumbers
   start-settings-pass = others-may p _ _ _ vreg-may ichg-may vsysmin-may
 
--- the registers start with the sheet's resets, field by field
-pub start-resets : (p : Profile) → (startRegisters p .r15 ≡ resetByte p 0x15) × (startRegisters p .r16 ≡ resetByte p 0x16) × (startRegisters p .r17 ≡ resetByte p 0x17)
-    × (startRegisters p .r18 ≡ resetByte p 0x18) × (startRegisters p .r19 ≡ resetByte p 0x19) × (startRegisters p .r1a ≡ resetByte p 0x1A)
-unfolding resetByte fieldsAt fields
-start-resets p = (refl, refl, refl, refl, refl, refl)
+-- FSW starts with 1
+start-frequency : (p : Profile) → frequencyOk p (fieldIn fsw (gathered p (λ (f : Field). f .reset))) ≡ true
+unfolding gathered fieldsOf fields putIn withWord putAt
+start-frequency p = refl
 
 pub start-registers-pass : (p : Profile) → p .cell ≤ 7 → registersOk p (startRegisters p) ≡ true
-unfolding registersOk shownOf fieldsAt fields
-start-registers-pass p c = le-leb (p .cell) 7 c
+unfolding registersOk startWords
+start-registers-pass p c = simp (gathered-sound p (λ (f : Field). f .reset), start-frequency p, le-leb (p .cell) 7 c)
 
 -- no time is within any limit
 nothing-used : (limit : ℕ) (stage : Bool) → stageOk limit stage 0 ≡ true

@@ -5,8 +5,8 @@ use mathlib.Core.Bool.{Bool, true, not, _&&_, _||_}
 use lib.Dec.{leb, ltb, eqb}
 use lib.IntN.{pos, negsuc}
 use lib.Signed.{leZ}
-use Rattle.state_fields.specs.Held.{storedAt}
-use Rattle.state_fields.specs.Rows.{fsw, shownOf, frequencyOk}
+use Rattle.state_fields.specs.Held.{fieldOf, wordsOk}
+use Rattle.state_table.specs.Rows.{fsw, frequencyOk}
 use Rattle.state_parts.specs.Edges.{allFlags}
 use Rattle.state_parts.specs.Stages.{inTrickle, inPrecharge, inFast, limitUnits}
 use Rattle.state_parts.specs.declared.cycle.Cycle.{Cycle}
@@ -31,14 +31,9 @@ sampleOk x =
     leb (x .input) 45000 && leb (x .pack) 45000 && leZ (negsuc 9999) (x .ibat) && leZ (x .ibat) (pos 5000) && leb (x .ts) 100000
     && leb (x .bits) 63
 
--- "Reserved .. bits ignore writes; reserved read 0": a held byte is the one that is shown
-abbrev pub byteOk : Profile → ℕ → ℕ → Bool
-byteOk p address byte = eqb (shownOf p address byte) byte
-
+-- "Reserved .. bits ignore writes; reserved read 0": no bit is held but those of stored fields; FSW has a frequency, and there are at most seven cells
 unfoldable pub registersOk : Profile → Registers → Bool
-registersOk p g =
-    byteOk p 0x15 (storedAt g 0x15) && byteOk p 0x16 (storedAt g 0x16) && byteOk p 0x17 (storedAt g 0x17) && byteOk p 0x18 (storedAt g 0x18)
-    && byteOk p 0x19 (storedAt g 0x19) && byteOk p 0x1A (storedAt g 0x1A) && frequencyOk p (storedAt g (fsw .address)) && leb (g .cells) 7
+registersOk p g = wordsOk p (g .words) && frequencyOk p (fieldOf fsw g) && leb (g .cells) 7
 
 -- "A limit of s seconds is reached at 2,000s units; a limit 0 counts nothing." An observation is at most 3,600,000 ms ahead, so a stage passes its limit by less than
 -- 7,200,000 units; and then the stage isn't held, since the fault is.

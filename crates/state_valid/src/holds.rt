@@ -1,9 +1,9 @@
 // What each part of the state may hold.
 ghost use mathlib.Core.Path.{_≡_};
 ghost use Rattle.state_valid.specs.Holds.{profileOk, sampleOk, registersOk, cycleOk, watchdogOk, stateOk};
-ghost use Rattle.state_valid.specs.Holds.{byteOk, stageOk};
-ghost use Rattle.state_fields.specs.Held.{storedAt};
-use state_fields::held;
+ghost use Rattle.state_valid.specs.Holds.{stageOk};
+use state_fields::holding::words_ok;
+use state_fields::named;
 use state_parts::cycle;
 use state_parts::cycle::Cycle;
 use state_parts::phase;
@@ -43,27 +43,14 @@ pub fn sample_ok(x: Sample) -> bool
         & (x.bits <= 63)
 }
 
-// The byte at an address has no reserved bits.
-fn byte_ok(p: Profile, g: Registers, address: u32) -> bool
-    ensures { λ r. ⌜ r ≡ byteOk p address (storedAt g address) ⌝ }
-{
-    let byte = held::stored_at(g, address);
-    state_fields::shown(p, address, byte) == byte
-}
-
 // The registers hold what they may.
 pub fn registers_ok(p: Profile, g: Registers) -> bool
     ensures { λ r. ⌜ r ≡ registersOk p g ⌝ }
 {
     let count = g.cells <= 7;
-    let b15 = byte_ok(p, g, 0x15);
-    let b16 = byte_ok(p, g, 0x16);
-    let b17 = byte_ok(p, g, 0x17);
-    let b18 = byte_ok(p, g, 0x18);
-    let b19 = byte_ok(p, g, 0x19);
-    let b1a = byte_ok(p, g, 0x1A);
-    let frequency = state_fields::frequency_ok(p, g.r16);
-    b15 & b16 & b17 & b18 & b19 & b1a & frequency & count
+    let code = named::fsw(g);
+    let stored = words_ok(p, g.words);
+    stored & ((1 <= code) & (code <= 6)) & count
 }
 
 // A stage's time by its limit, and by whether the stage is held.

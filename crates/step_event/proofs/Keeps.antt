@@ -21,7 +21,7 @@ use Rattle.state_parts.specs.declared.state.State.{State}
 use Rattle.state_parts.specs.declared.state.Model.{Model}
 use Rattle.state_parts.specs.declared.state.Model.the-variants.{Off, On}
 use Rattle.log_event.specs.declared.Event.{Event}
-use Rattle.state_fields.specs.Rows.{frequencyOk}
+use Rattle.state_table.specs.Rows.{frequencyOk, fsw, digitOf}
 use Rattle.state_start.specs.Values.{startState}
 use Rattle.state_settings.specs.Numbered.{storeOf}
 use Rattle.state_settings.specs.Ranges.{knownSetting, mayHold}
@@ -30,8 +30,7 @@ use Rattle.state_valid.specs.Holds.{profileOk, sampleOk, stateOk}
 use Rattle.state_parts.proofs.FlagLaws.{flags-fit}
 use Rattle.state_valid.proofs.Begins.{start-passes, start-watchdog-pass}
 use Rattle.state_valid.proofs.Wholes.{apart, whole}
-use Rattle.state_registers.specs.Reads.{knownAddress}
-use Rattle.state_registers.specs.Writes.{writtenTo, writeOf}
+use Rattle.state_registers.specs.Writes.{knownAddress, writtenTo, writeOf}
 use Rattle.state_registers.specs.Resets.{resetOf}
 use Rattle.state_registers.proofs.Keeps.{write-passes, reset-passes}
 use Rattle.settle_all.specs.Settle.{settleOf}
@@ -87,13 +86,13 @@ module _ (s : State) (e : stateOk s ≡ true) where
       })))
 
   -- FSW is 1 to 6 where the byte is taken
-  legal : (address byte : ℕ) → (eqb address 0x16 && not (frequencyOk (s .profile) byte)) ≡ false → address ≡ 0x16 → frequencyOk (s .profile) byte ≡ true
-  legal address byte t same = not-false (frequencyOk (s .profile) byte) (simp same at t)
+  legal : (address byte : ℕ) → (eqb address 0x16 && not (frequencyOk (s .profile) (digitOf fsw byte))) ≡ false → address ≡ 0x16 → frequencyOk (s .profile) (digitOf fsw byte) ≡ true
+  legal address byte t same = not-false (frequencyOk (s .profile) (digitOf fsw byte)) (simp same at t)
 
   writes : (address byte : ℕ) → Writes (writtenOf s address byte)
   unfolding writtenOf writeOf
   writes address byte =
-      by (not (knownAddress address)) (not (leb byte 255)) (eqb address 0x16 && not (frequencyOk (s .profile) byte))
+      by (not (knownAddress address)) (not (leb byte 255)) (eqb address 0x16 && not (frequencyOk (s .profile) (digitOf fsw byte)))
       (λ known small good.
       let k = and-iff (leb 0x15 address) (leb address 0x1C) .0 (not-false (knownAddress address) known) in
       let most = leb-true byte 255 (not-false (leb byte 255) small) in

@@ -17,6 +17,7 @@ use Rattle.state_parts.specs.declared.state.State.{State}
 use Rattle.state_parts.specs.declared.watchdog.Watchdog.{Watchdog}
 use Rattle.state_valid.specs.Holds.{sampleOk, registersOk, stageOk, cycleOk, watchdogOk, stateOk}
 use Rattle.state_valid.proofs.Bounds.{stage-held, stages-apart, stages-whole}
+use Rattle.state_registers.proofs.Keeps.{cleared-registers}
 use Rattle.state_valid.proofs.Wholes.{apart}
 use Rattle.step_event.specs.Clock.{unitsOf, addedOf, timesOf, countedOf, clearedIf, observedOf}
 use Rattle.step_event.proofs.Clocks.{units-most}
@@ -46,10 +47,11 @@ counted-passes : (p : Profile) (w : Watchdog) (ms : ℕ) → watchdogOk (counted
 unfolding watchdogOk countedOf
 counted-passes p w ms = le-leb (min (w .count + ms) (p .watchdog * 1000)) (p .watchdog * 1000) (omega arith)
 
--- any override may stand, or none
+-- any override may stand, or none; FSW isn't among them
 cleared-passes : (p : Profile) (expires : Bool) (g : Registers) → registersOk p g ≡ true → registersOk p (clearedIf expires g) ≡ true
-unfolding registersOk clearedIf
-cleared-passes p expires g e = e
+unfolding clearedIf
+cleared-passes p true g e = cleared-registers p g e
+cleared-passes p false g e = e
 
 pub observed-ready : (s : State) (x : Sample) → stateOk s ≡ true → sampleOk x ≡ true → elapsedOf (s .sample .stamp) (x .stamp) ≤ 3600000 → Ready (observedOf s x)
 unfolding observedOf

@@ -4,8 +4,9 @@ use mathlib.Core.Bool.{Bool, not, _&&_}
 use lib.Dec.{eqb}
 use Rattle.base.specs.Pick.{pick}
 use Rattle.base.specs.Stamps.{elapsedOf}
+use Rattle.state_fields.specs.Held.{withoutOverrides}
 use Rattle.state_parts.specs.Stages.{inTrickle, inPrecharge, inFast}
-use Rattle.state_parts.specs.With.{withCycle, withRegisters, withWatchdog, withSample, withOverrides}
+use Rattle.state_parts.specs.With.{withCycle, withRegisters, withWatchdog, withSample, withWords}
 use Rattle.state_parts.specs.declared.cycle.Cycle.{Cycle}
 use Rattle.state_parts.specs.declared.phase.Phase.{Phase}
 use Rattle.state_parts.specs.declared.profile.Profile.{Profile}
@@ -39,7 +40,7 @@ countedOf p w ms = record { count = min (w .count + ms) (p .watchdog * 1000) }
 
 -- "all three overrides clear"
 unfoldable pub clearedIf : Bool → Registers → Registers
-clearedIf expires g = withOverrides g (g .vchgoverride && not expires) (g .celloverride && not expires) (g .ichgoverride && not expires)
+clearedIf expires g = pick expires (withWords g (withoutOverrides (g .words))) g
 
 -- "3. The new sample stands."
 unfoldable pub observedOf : State → Sample → State

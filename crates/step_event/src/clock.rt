@@ -8,6 +8,7 @@ ghost use Rattle.step_event.specs.Clock.{unitsOf, addedOf, timesOf, coun
 use base::choice;
 use base::stamp;
 use settle_permission::bits;
+use state_fields::holding::without_overrides;
 use state_parts::cycle::Cycle;
 use state_parts::phase;
 use state_parts::phase::Phase;
@@ -73,11 +74,14 @@ fn counted(p: Profile, w: Watchdog, ms: u32) -> Watchdog
 fn cleared(expires: bool, g: Registers) -> Registers
     ensures { λ r. ⌜ r ≡ clearedIf expires g ⌝ }
 {
-    let mut r = g;
-    r.vchgoverride = g.vchgoverride & !expires;
-    r.celloverride = g.celloverride & !expires;
-    r.ichgoverride = g.ichgoverride & !expires;
-    r
+    if expires {
+        let words = without_overrides(g.words);
+        let mut r = g;
+        r.words = words;
+        r
+    } else {
+        g
+    }
 }
 
 // The state as an observation finds it, before it settles.

@@ -1,26 +1,18 @@
-// What the model holds after a record: its number, the eight registers, the fourteen settings, the band, STAT and the flags that the record handed back.
+// What the model holds after a record: its number, the registers 0x00 to 0x26, the fourteen settings, the band, STAT and the flags that the record handed back.
 use crate::say;
 use report_state::answer::Stat;
 use report_state::stat;
 use state_parts::band::Band;
 use state_parts::state::Model;
 use state_parts::state::State;
-use state_registers::reading;
-use state_registers::reading::ReadAnswer;
 use state_settings::numbered;
 use step_event::walking::Met;
 
-fn register(s: State, address: u32) {
-    match reading::read(s, address) {
-        ReadAnswer::Byte(b) => say::number(b as u32),
-        ReadAnswer::Refused(_) => say::text(b"? "),
-    }
-}
-
 fn registers(s: State) {
-    let mut address: u32 = 0x15;
-    while address < 0x1D {
-        register(s, address);
+    let mut address: u32 = 0;
+    while address < 0x27 {
+        let byte = report_registers::read(s, address);
+        say::number(byte as u32);
         address += 1;
     }
 }

@@ -1,7 +1,7 @@
 -- `cut`: the table's entry in warm alone.
 use Rattle.settle_bands.specs.Effect.{cutOf}
-use Rattle.state_fields.specs.Rows.{jeitaVset}
-use Rattle.state_fields.proofs.Bytes.{field-mod}
+use Rattle.state_table.specs.Rows.{jeitaVset}
+use Rattle.state_fields.proofs.Fields.{field-mod}
 use Rattle.settle_bands.proofs.effect.cut.Statement.{statement}
 use Rattle.settle_bands.proofs.effect.cut.Tie as tie
 

@@ -4,9 +4,9 @@ use mathlib.Core.Path.{_≡_, refl}
 use native.Mathlib.Omega.{arith}
 use lib.Dec.{eqb}
 use Rattle.base.specs.Pick.{pick}
-use Rattle.state_fields.proofs.Bytes.{field-mod}
+use Rattle.state_fields.proofs.Fields.{field-mod}
 use Rattle.state_fields.specs.Held.{fieldOf}
-use Rattle.state_fields.specs.Rows.{jeitaIsetc, jeitaIseth}
+use Rattle.state_table.specs.Rows.{jeitaIsetc, jeitaIseth}
 use Rattle.state_parts.specs.declared.profile.Profile.{Profile}
 use Rattle.settle_bands.specs.Effect.{warmShare, shareOf}
 use Rattle.settle_bands.proofs.effect.share.Statement.{statement}

@@ -1,6 +1,6 @@
 -- `th1`: the table's entry, by the field.
-use Rattle.state_fields.specs.Rows.{tsTh1}
-use Rattle.state_fields.proofs.Bytes.{field-mod}
+use Rattle.state_table.specs.Rows.{tsTh1}
+use Rattle.state_fields.proofs.Fields.{field-mod}
 use Rattle.settle_bands.proofs.thresholds.th1.Statement.{statement}
 use Rattle.settle_bands.proofs.thresholds.th1.Tie as tie
 

@@ -1,11 +1,11 @@
 -- `written`: its calls' results in place.
-use Rattle.state_registers.specs.Writes.{writtenTo}
+use Rattle.state_registers.specs.Writes.{writtenRegisters, writtenTo}
 use Rattle.state_registers.proofs.writing.written.Statement.{statement}
 use Rattle.state_registers.proofs.writing.written.Tie as tie
 
 returns : tie.Need-returns
-unfolding writtenTo
-returns c = simp (c .with-byte .ensures, c .before .either .ensures, c .before .before .recount .ensures, c .before .before .before .taken .ensures, c .before .before .before .before .byte-at .ensures, c .before .before .before .before .before .count-taken .ensures, c .before .before .before .before .before .before .cell-pin .ensures)
+unfolding writtenTo writtenRegisters
+returns c = simp (c .number .ensures, c .before .taken .ensures, c .before .before .either .ensures, c .before .before .before .recount .ensures, c .before .before .before .before .count-taken .ensures)
 
 pub written-spec : {M : Type 1} → statement M
-written-spec = tie.close (tie.spec (λ c κs. tt) (λ c κs. tt) (λ c κs. tt) (λ c κs. tt) (λ c κs. tt) (λ c κs. tt) (λ c κs. tt) returns)
+written-spec = tie.close (tie.spec (λ c κs. tt) (λ c κs. tt) (λ c κs. tt) (λ c κs. tt) (λ c κs. tt) returns)

@@ -1,0 +1,3 @@
+-- The crate's laws.
+pub mod Sums
+pub mod Contracts

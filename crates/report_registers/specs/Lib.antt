@@ -1,0 +1,3 @@
+-- The crate's definitions.
+pub mod Reads
+pub mod Contracts
