@@ -8,11 +8,14 @@ use library::layout::{
 };
 use reference::event::Sample;
 use reference::number::{fold, unfold};
-use reference::pins::{Overrides, Pins};
-use reference::registers::Control;
+use reference::pins::Pins;
 use reference::settings::Settings;
 use reference::state::{Comparators, Cycle, PerStage, State};
+use reference::stored::{Stored, LENGTH};
 use reference::volts::CellMv;
+
+/// The word of CELL_PIN, after the stored fields.
+const CELL_PIN: usize = REGISTERS + LENGTH / WORD;
 
 /// An image's words.
 pub type Words = [u32; IMAGE_WORDS];
@@ -44,17 +47,17 @@ fn put<const N: usize>(words: &mut Words, start: usize, values: [u32; N]) {
 /// The words of a model.
 pub fn of(powered: &Powered) -> Words {
     let Powered { cell, stamp, band, state } = powered;
-    let State { pins, overrides, limits, comparators, cycle, sample, .. } = state;
+    let State { pins, limits, comparators, cycle, sample, .. } = state;
     let mut words = [0; IMAGE_WORDS];
     words[0] = FORMAT;
     put(&mut words, PROFILE, [*cell, pins.vchg, pins.ichg, state.ohms, *stamp]);
     put(&mut words, PROFILE + 5, [state.ceiling.0]);
     put(&mut words, PROFILE + 6, [limits.trickle, limits.precharge, limits.fast, state.period]);
     put(&mut words, SETTINGS, state.settings.0);
-    put(&mut words, REGISTERS, state.control.0.map(u32::from));
-    words[REGISTERS + 6] = pins.cell;
-    let bits = [overrides.vchg, overrides.cell, overrides.ichg];
-    put(&mut words, REGISTERS + 7, bits.map(u32::from));
+    for (word, bytes) in words[REGISTERS..].iter_mut().zip(state.stored.0.chunks_exact(WORD)) {
+        *word = u32::from_le_bytes(bytes.try_into().expect("four bytes"));
+    }
+    words[CELL_PIN] = pins.cell;
     let Comparators { vin_ok, vin_over, short, low, battery_over } = *comparators;
     put(&mut words, LATCHES, [vin_ok, vin_over, short, low, battery_over].map(u32::from));
     let PerStage { trickle, precharge, fast } = cycle.times;
@@ -73,16 +76,14 @@ pub fn of(powered: &Powered) -> Words {
 pub fn powered(words: &Words) -> Powered {
     let [cell, vchg, ichg, ohms, stamp, ceiling, trickle, precharge, fast, period] =
         part(words, PROFILE);
-    let [pin, overrides @ ..]: [u32; 4] = part(words, REGISTERS + 6);
     let state = State {
-        pins: Pins { cell: pin, vchg, ichg },
-        overrides: held_overrides(overrides),
+        pins: Pins { cell: words[CELL_PIN], vchg, ichg },
         ohms,
         ceiling: CellMv(ceiling),
         limits: PerStage { trickle, precharge, fast },
         period,
         settings: settings(part(words, SETTINGS)),
-        control: Control(part(words, REGISTERS).map(|word| word as u8)),
+        stored: stored(&words[REGISTERS..CELL_PIN]),
         comparators: comparators(part(words, LATCHES)),
         cycle: cycle(part(words, CYCLE)),
         watchdog: words[WATCHDOG],
@@ -97,9 +98,10 @@ fn bit(word: u32) -> bool {
     word % 2 == 1
 }
 
-fn held_overrides(words: [u32; 3]) -> Overrides {
-    let [vchg, cell, ichg] = words.map(bit);
-    Overrides { vchg, cell, ichg }
+fn stored(words: &[u32]) -> Stored {
+    let mut bytes = [0; LENGTH];
+    write(words, &mut bytes);
+    Stored(bytes)
 }
 
 /// Settings 9 to 13 are switches.

@@ -2,17 +2,20 @@
 //! it, of its report and of its registers.
 //!
 //! The reference derives the band from the sample, and an image holds it. On
-//! an image from outside the two may differ: then flag 7 and the report are
-//! by the held one.
+//! an image from outside the two may differ: then flag 7, the report and
+//! TS_STAT are by the held one.
 
 use crate::image::{band_number, Held, Powered};
 use reference::edges::BAND_CHANGED;
 use reference::pins::Pins;
-use reference::registers::{Control, FIRST, WRITABLE};
+use reference::stored::Stored;
 use reference::{
     may_hold, read_register, report, stat, Event, Model, Refusal, Report, Sample, Setting, Stat,
     State, Step,
 };
+
+/// The address of TS_STAT.
+const TS_STAT: u32 = 0x1E;
 
 /// What an accepted event leaves and shows.
 pub(crate) struct Accepted {
@@ -109,19 +112,22 @@ fn codes(pins: &Pins) -> Pins {
 }
 
 /// The state with a TS, and thresholds, that make its band the held one. The
-/// report depends on them through the band alone.
+/// report and 0x1E depend on them through the band alone.
 fn in_held_band(powered: &Powered) -> State {
     let state = powered.state;
     let ts = [55_000, 100_000, 0, 70_000, 40_000][powered.band as usize];
-    let mut bytes = state.control.0;
-    bytes[3] = Control::at_power_on().0[3];
-    bytes[4] |= 3;
-    State { control: Control(bytes), sample: Sample { ts, ..state.sample }, ..state }
+    let mut bytes = state.stored.0;
+    bytes[0x18] = Stored::at_power_on().0[0x18];
+    bytes[0x19] |= 3;
+    State { stored: Stored(bytes), sample: Sample { ts, ..state.sample }, ..state }
 }
 
-/// A register's byte; reserved bits read 0, whatever an image holds.
+/// A register's byte, TS_STAT by the held band.
 pub(crate) fn register(held: &Held, address: u32) -> Result<u8, Refusal> {
-    let byte = read_register(&held.model(), address)?;
-    let writable = WRITABLE.get((address - FIRST) as usize);
-    Ok(byte & writable.copied().unwrap_or(0xFF))
+    match held {
+        Held::On(powered) if address == TS_STAT => {
+            read_register(&Model::On(in_held_band(powered)), address)
+        }
+        _ => read_register(&held.model(), address),
+    }
 }

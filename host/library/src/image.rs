@@ -5,7 +5,7 @@ use crate::words::Words;
 use reference::event::Sample;
 use reference::number::fold;
 use reference::state::{Comparators, PerStage, State};
-use reference::{Band, Event, Model};
+use reference::{Event, Model};
 
 /// A model as an image holds it.
 #[derive(Clone, Copy, Debug, PartialEq, Eq)]
@@ -60,15 +60,9 @@ impl Held {
     }
 }
 
-/// "0 normal, 1 cold, 2 hot, 3 cool, 4 warm", of a state's sample.
+/// The number of the band that a state's sample is in.
 pub fn band_number(state: &State) -> u32 {
-    match reference::band::of_state(state) {
-        Band::Normal => 0,
-        Band::Cold => 1,
-        Band::Hot => 2,
-        Band::Cool => 3,
-        Band::Warm => 4,
-    }
+    reference::band::of_state(state).number()
 }
 
 /// The image of a model.
@@ -86,10 +80,8 @@ fn words(powered: &Powered) -> Vec<u32> {
     words.extend(stages(&state.limits));
     words.push(state.period);
     words.extend(state.settings.0);
-    words.extend(state.control.0.map(u32::from));
+    words.extend(words_of(&state.stored.0).into_iter().flatten());
     words.push(state.pins.cell);
-    let overrides = &state.overrides;
-    words.extend([overrides.vchg, overrides.cell, overrides.ichg].map(u32::from));
     let Comparators { vin_ok, vin_over, short, low, battery_over } = state.comparators;
     words.extend([vin_ok, vin_over, short, low, battery_over].map(u32::from));
     words.extend(stages(&state.cycle.times));

@@ -4,34 +4,35 @@
 /// The number of the rules.
 pub const RULES: u32 = 4;
 /// The format of an image: word 0 of a model that is on.
-pub const FORMAT: u32 = 4;
+pub const FORMAT: u32 = 5;
 /// Bytes of a word.
 pub const WORD: usize = 4;
 /// Words of an image.
-pub const IMAGE_WORDS: usize = 54;
+pub const IMAGE_WORDS: usize = 55;
 /// Bytes of an image.
-pub const IMAGE: usize = 216;
+pub const IMAGE: usize = 220;
 /// The word of an image at which the power-on's ten numbers start, as kind 1
 /// has them.
 pub const PROFILE: usize = 1;
 /// The word at which settings 1 to 14 start.
 pub const SETTINGS: usize = 11;
-/// The word at which the registers start.
+/// The word at which the registers start: ten of the stored fields' bytes, and
+/// CELL_PIN.
 pub const REGISTERS: usize = 25;
 /// The word at which the comparators start.
-pub const LATCHES: usize = 35;
+pub const LATCHES: usize = 36;
 /// The word at which the stages' times and done start.
-pub const CYCLE: usize = 40;
+pub const CYCLE: usize = 41;
 /// The word of the watchdog's count.
-pub const WATCHDOG: usize = 44;
+pub const WATCHDOG: usize = 45;
 /// The word at which the sample's six numbers start.
-pub const SAMPLE: usize = 45;
+pub const SAMPLE: usize = 46;
 /// The word of the phase.
-pub const PHASE: usize = 51;
+pub const PHASE: usize = 52;
 /// The word of the band.
-pub const BAND: usize = 52;
+pub const BAND: usize = 53;
 /// The word of the held flags.
-pub const FLAGS: usize = 53;
+pub const FLAGS: usize = 54;
 /// Bytes of what an accepted event shows.
 pub const SHOWN: usize = 28;
 /// Bytes of a report.

@@ -1,12 +1,13 @@
 //! An image's words, read back into a model.
 
 use crate::image::Powered;
+use crate::layout::WORD;
 use reference::event::Sample;
 use reference::number::unfold;
-use reference::pins::{Overrides, Pins};
-use reference::registers::Control;
+use reference::pins::Pins;
 use reference::settings::Settings;
 use reference::state::{Comparators, Cycle, PerStage, State};
+use reference::stored::{Stored, LENGTH};
 use reference::volts::CellMv;
 
 /// An image's words, read one after another.
@@ -48,9 +49,8 @@ impl<'words> Words<'words> {
         let limits = self.stages();
         let period = self.number();
         let settings = self.settings()?;
-        let control = self.control()?;
+        let stored = self.stored();
         let pins = Pins { cell: self.number(), vchg, ichg };
-        let overrides = Overrides { vchg: self.bit()?, cell: self.bit()?, ichg: self.bit()? };
         let comparators = self.comparators()?;
         let cycle = Cycle { times: self.stages(), done: self.bit()? };
         let watchdog = self.number();
@@ -60,13 +60,12 @@ impl<'words> Words<'words> {
         let flags = self.below(1 << 12)?;
         let state = State {
             pins,
-            overrides,
             ohms,
             ceiling,
             limits,
             period,
             settings,
-            control,
+            stored,
             comparators,
             cycle,
             watchdog,
@@ -86,12 +85,13 @@ impl<'words> Words<'words> {
         Some(Settings(values))
     }
 
-    fn control(&mut self) -> Option<Control> {
-        let mut bytes = [0; 6];
-        for byte in &mut bytes {
-            *byte = u8::try_from(self.number()).ok()?;
+    /// Four addresses to a word, the lowest address lowest.
+    fn stored(&mut self) -> Stored {
+        let mut bytes = [0; LENGTH];
+        for word in bytes.chunks_exact_mut(WORD) {
+            word.copy_from_slice(&self.number().to_le_bytes());
         }
-        Some(Control(bytes))
+        Stored(bytes)
     }
 
     fn comparators(&mut self) -> Option<Comparators> {

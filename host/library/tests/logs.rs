@@ -48,10 +48,10 @@ impl Head {
         }
     }
 
-    /// Everything that can be read of the model.
+    /// What can be read of the model: of the registers, each fourth.
     fn look(&self) {
         both::report(&self.image, &mut [0; REPORT]);
-        for address in 0x14..=0x1D {
+        for address in (self.place as u32 % 4..=0x28).step_by(4) {
             both::register(&self.image, address);
         }
     }

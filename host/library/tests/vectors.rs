@@ -4,7 +4,11 @@
 use library::calls;
 use library::layout::{words_of, BAND, IMAGE, REPORT, SETTINGS, SHOWN};
 use std::fs;
+use std::ops::RangeInclusive;
 use std::path::{Path, PathBuf};
+
+/// The registers whose bytes the stored lines of `state` have.
+const BYTES: RangeInclusive<u32> = 0x15..=0x1C;
 
 /// The longest input a program takes.
 const MOST_INPUT: usize = 65_536;
@@ -103,7 +107,7 @@ fn runlog(log: &[u8]) -> String {
 
 fn state_line(played: &Played) -> String {
     let registers: Vec<u32> =
-        (0x15..=0x1C).map(|address| calls::register(played.image, address).byte).collect();
+        BYTES.map(|address| calls::register(played.image, address).byte).collect();
     let held = words(played.image);
     let band = ["normal", "cold", "hot", "cool", "warm"][held[BAND] as usize];
     let stat = ["low", "blinking", "high"][report(played.image)[5] as usize];

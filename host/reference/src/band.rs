@@ -29,23 +29,34 @@ impl Band {
             Band::Hot => "hot",
         }
     }
+
+    /// The band's number, which is its code of TS_STAT.
+    pub fn number(self) -> u32 {
+        match self {
+            Band::Normal => 0,
+            Band::Cold => 1,
+            Band::Hot => 2,
+            Band::Cool => 3,
+            Band::Warm => 4,
+        }
+    }
 }
 
 /// "Band, first that holds: EN_TS 0 normal; TS >= TH1 cold; TS <= TH5 hot;
 /// with EN_JEITA: TS >= TH2 cool; TS <= TH3 warm; else normal." The order
 /// matters, as the thresholds can be set to overlap.
 pub fn of_state(state: &State) -> Band {
-    let control = &state.control;
+    let stored = &state.stored;
     let ts = state.sample.ts;
-    if !control.en_ts() {
+    if !stored.en_ts() {
         Band::Normal
-    } else if ts >= control.th1() {
+    } else if ts >= stored.th1() {
         Band::Cold
-    } else if ts <= control.th5() {
+    } else if ts <= stored.th5() {
         Band::Hot
-    } else if control.en_jeita() && ts >= control.th2() {
+    } else if stored.en_jeita() && ts >= stored.th2() {
         Band::Cool
-    } else if control.en_jeita() && ts <= control.th3() {
+    } else if stored.en_jeita() && ts <= stored.th3() {
         Band::Warm
     } else {
         Band::Normal

@@ -65,12 +65,12 @@ pub fn may_hold(model: &Model) -> bool {
 fn state_may_hold(state: &State) -> bool {
     held_profile_in_range(state)
         && settings_in_range(&state.settings)
-        && state.control.may_hold()
+        && state.stored.may_hold()
         && sample_in_range(&state.sample)
         && state.phase <= MOST_PHASE
         && state.flags <= MOST_FLAGS
         && Stage::ALL.into_iter().all(|stage| time_in_range(state, stage))
-        && state.watchdog <= state.watchdog_end()
+        && u64::from(state.watchdog) <= state.watchdog_end()
 }
 
 fn held_profile_in_range(state: &State) -> bool {

@@ -7,7 +7,8 @@
 //! * [`number`], [`record`], [`event`]: the log's spelling.
 //! * [`model`], [`state`], [`hold`], [`settle`], [`edges`]: one event on one
 //!   model.
-//! * [`pins`], [`settings`], [`registers`], [`volts`]: what the host sets.
+//! * [`pins`], [`settings`], [`registers`], [`stored`], [`volts`]: what the
+//!   host sets; [`map`]: where it stands in the registers.
 //! * [`mod@report`], [`mod@band`]: what the model shows.
 //! * [`run`], [`mod@part`]: whole logs.
 //! * [`generate`]: logs and models made from a seed, for comparisons.
@@ -20,6 +21,7 @@ pub mod edges;
 pub mod event;
 pub mod generate;
 pub mod hold;
+pub mod map;
 pub mod model;
 pub mod number;
 pub mod part;
@@ -32,6 +34,7 @@ pub mod run;
 pub mod settings;
 pub mod settle;
 pub mod state;
+pub mod stored;
 pub mod volts;
 
 pub use band::{band, Band};

@@ -22,7 +22,7 @@ pub enum Refusal {
     UnknownSetting = 8,
     /// The setting's value is outside its range or off its step.
     SettingValue = 9,
-    /// The address is not 0x15-0x1C.
+    /// A written address is not 0x15-0x1C.
     UnknownAddress = 10,
     /// FSW (0x16 bits 2:0) is written 0 or 7.
     Frequency = 11,

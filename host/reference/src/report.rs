@@ -55,7 +55,7 @@ fn charge_current(state: &State) -> u32 {
 
 /// "Charge clamp: ichg's value; with override 3,300."
 fn charge_clamp(state: &State) -> u32 {
-    if state.overrides.ichg {
+    if state.overrides().ichg {
         MOST_CHARGE_CURRENT
     } else {
         state.pins.ichg_value()
@@ -66,8 +66,8 @@ fn charge_clamp(state: &State) -> u32 {
 /// suspends, so a run never reports its share; it is nothing.
 fn band_percent(state: &State) -> u32 {
     match band::of_state(state) {
-        Band::Cool => [0, 20, 40, 100][usize::from(state.control.jeita_isetc())],
-        Band::Warm if !state.control.jeita_iseth() => 40,
+        Band::Cool => [0, 20, 40, 100][usize::from(state.stored.jeita_isetc())],
+        Band::Warm if !state.stored.jeita_iseth() => 40,
         _ => 100,
     }
 }

@@ -82,21 +82,21 @@ pub(crate) fn settle(state: &mut State, cause: Cause) {
 /// "Pin fault: CELL_PIN 0; vchg or ichg code 0 without its override."
 fn pin_fault(state: &State) -> bool {
     state.pins.cell == 0
-        || (state.pins.vchg == 0 && !state.overrides.vchg)
-        || (state.pins.ichg == 0 && !state.overrides.ichg)
+        || (state.pins.vchg == 0 && !state.overrides().vchg)
+        || (state.pins.ichg == 0 && !state.overrides().ichg)
 }
 
 /// "Base voltage: lower of VREG and the pack clamp, which is vchg x cells
 /// or, with VCHG override, ceiling x cells."
 pub fn base_voltage(state: &State) -> PackMv {
-    let per_cell = if state.overrides.vchg { state.ceiling } else { state.pins.vchg_value() };
+    let per_cell = if state.overrides().vchg { state.ceiling } else { state.pins.vchg_value() };
     PackMv(state.settings[Setting::Vreg]).min(per_cell.times(state.pins.cell))
 }
 
 /// "Charge voltage: base, less in warm 250, 100 or 0 per cell (JEITA_VSET
 /// 1-3)."
 pub fn charge_voltage(state: &State) -> PackMv {
-    let cut = match (band::of_state(state), state.control.jeita_vset()) {
+    let cut = match (band::of_state(state), state.stored.jeita_vset()) {
         (Band::Warm, 1) => CellMv(250),
         (Band::Warm, 2) => CellMv(100),
         _ => CellMv(0),
@@ -193,8 +193,8 @@ fn judged(state: &State) -> u32 {
 fn suspended(state: &State) -> bool {
     match band::of_state(state) {
         Band::Cold | Band::Hot => true,
-        Band::Cool => state.control.jeita_isetc() == 0,
-        Band::Warm => state.control.jeita_vset() == 0,
+        Band::Cool => state.stored.jeita_isetc() == 0,
+        Band::Warm => state.stored.jeita_vset() == 0,
         Band::Normal => false,
     }
 }

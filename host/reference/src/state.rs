@@ -5,8 +5,9 @@ use crate::event::{Event, Profile, Sample};
 use crate::hold::sample_in_range;
 use crate::pins::{Overrides, Pins};
 use crate::refusal::Refusal;
-use crate::registers::{self, Control};
+use crate::registers;
 use crate::settings::{Setting, Settings};
+use crate::stored::Stored;
 use crate::volts::CellMv;
 
 /// The phases' numbers.
@@ -132,8 +133,6 @@ impl Comparators {
 pub struct State {
     /// The pin codes.
     pub pins: Pins,
-    /// Their overrides.
-    pub overrides: Overrides,
     /// ILIM ohms.
     pub ohms: u32,
     /// Cell ceiling.
@@ -144,8 +143,8 @@ pub struct State {
     pub period: u32,
     /// The settings.
     pub settings: Settings,
-    /// Registers 0x15-0x1A.
-    pub control: Control,
+    /// The stored fields of the register map.
+    pub stored: Stored,
     /// The comparators.
     pub comparators: Comparators,
     /// The cycle.
@@ -166,7 +165,6 @@ impl State {
         let pins = Pins { cell: profile.cell, vchg: profile.vchg, ichg: profile.ichg };
         State {
             pins,
-            overrides: Overrides::default(),
             ohms: profile.ohms,
             ceiling: CellMv(profile.ceiling),
             limits: PerStage {
@@ -176,7 +174,7 @@ impl State {
             },
             period: profile.watchdog,
             settings: Settings::at_start(&pins),
-            control: Control::at_power_on(),
+            stored: Stored::at_power_on(),
             comparators: Comparators::at_power_on(),
             cycle: Cycle::default(),
             watchdog: 0,
@@ -186,22 +184,29 @@ impl State {
         }
     }
 
-    /// Whether the watchdog has expired and rests.
-    pub fn watchdog_expired(&self) -> bool {
-        self.period != 0 && self.watchdog >= self.watchdog_end()
+    /// The pins' overrides.
+    pub fn overrides(&self) -> Overrides {
+        self.stored.overrides()
     }
 
-    /// The count at which the watchdog expires.
-    pub fn watchdog_end(&self) -> u32 {
-        self.period.saturating_mul(1_000)
+    /// Whether the watchdog has expired and rests.
+    pub fn watchdog_expired(&self) -> bool {
+        self.period != 0 && u64::from(self.watchdog) >= self.watchdog_end()
+    }
+
+    /// The count at which the watchdog expires. It may be above all counts if
+    /// the period is one that a model may not hold.
+    pub fn watchdog_end(&self) -> u64 {
+        u64::from(self.period) * 1_000
     }
 
     /// Whether a stage's limit is reached: "A limit of s seconds is reached
     /// at 2,000s units; a limit 0 counts nothing."
     pub fn limit_reached(&self) -> bool {
         Stage::ALL.into_iter().any(|stage| {
-            let limit = self.limits.of(stage);
-            limit != 0 && self.cycle.times.of(stage) >= limit.saturating_mul(UNITS_PER_SECOND)
+            let limit = u64::from(self.limits.of(stage));
+            let time = u64::from(self.cycle.times.of(stage));
+            limit != 0 && time >= limit * u64::from(UNITS_PER_SECOND)
         })
     }
 
@@ -224,9 +229,9 @@ impl State {
         if self.period == 0 || self.watchdog_expired() {
             return;
         }
-        self.watchdog = (self.watchdog + elapsed).min(self.watchdog_end());
+        self.watchdog = (self.watchdog + elapsed).min(self.watchdog_end() as u32);
         if self.watchdog_expired() {
-            self.overrides = Overrides::default();
+            self.stored.clear_overrides();
         }
     }
 
@@ -258,8 +263,7 @@ impl State {
     /// pin codes, flags, comparators and 0x19 bit 7."
     fn reset(&mut self) {
         self.settings = Settings::at_start(&self.pins);
-        self.control = self.control.reset();
-        self.overrides = Overrides::default();
+        self.stored = self.stored.reset();
         self.cycle = Cycle::default();
         self.watchdog = 0;
     }

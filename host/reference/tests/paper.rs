@@ -272,8 +272,10 @@ fn refusals_in_the_models_order() {
     );
     assert_eq!(refusal(&on, set(Setting::Vreg, 2_405)), Some(Refusal::SettingValue));
     assert_eq!(refusal(&on, Event::Observe(bad_sample)), Some(Refusal::OutOfRange));
-    assert_eq!(read_register(&Model::Off, 0), Err(Refusal::NotPowered));
-    assert_eq!(read_register(&on, 0x1D), Err(Refusal::UnknownAddress));
+    for address in [0, 0x1B, 0x27, u32::MAX] {
+        assert_eq!(read_register(&Model::Off, address), Err(Refusal::NotPowered));
+    }
+    assert_eq!(read_register(&on, 0x27), Ok(0xFF));
 }
 
 #[test]

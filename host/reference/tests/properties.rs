@@ -6,7 +6,7 @@ use reference::generate::{
     any_event, any_log, any_state, damaged_log, events_of, log_pair, plausible_events,
     plausible_log, spoiled_state, times, Rng,
 };
-use reference::registers;
+use reference::map;
 use reference::{
     band, may_hold, read_register, record, report, runlog, stat, statelog, Event, Model, Reader,
     Reading, Refusal, State, Step,
@@ -86,7 +86,7 @@ fn an_event_on_a_model_that_does_not_pass_is_5() {
 /// Reads, report and STAT answer on any model.
 fn show(model: &Model) {
     let _ = (report(model), stat(model), band(model));
-    for address in registers::FIRST..=registers::LAST {
+    for address in 0..=map::LAST + 1 {
         assert!(read_register(model, address).is_ok());
     }
 }
@@ -231,7 +231,7 @@ fn damaged_logs_reach_every_refusal_of_the_reader() {
         let (code, offset) = ending(&log);
         assert_eq!(words[2..], [code.to_string(), offset.to_string()]);
         codes.insert(words[2].to_string());
-        assert!(statelog(&log).lines().count() <= records);
+        assert!(statelog(&log, 0..=map::LAST).lines().count() <= records);
     }
     assert_eq!(codes.into_iter().collect::<String>(), "01234");
 }

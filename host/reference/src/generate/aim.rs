@@ -20,7 +20,7 @@ pub(super) fn gap(rng: &mut Rng, state: &State) -> u32 {
         0 | 1 => 0,
         2 | 3 => rng.within(1, 3),
         4..=6 => rng.near(to_limit(state)).min(MOST_AHEAD_MS),
-        7 | 8 => rng.near(state.watchdog_end() - state.watchdog).min(MOST_AHEAD_MS),
+        7 | 8 => rng.near(state.watchdog_end() as u32 - state.watchdog).min(MOST_AHEAD_MS),
         9 => MOST_AHEAD_MS,
         10 => rng.pick(&[MOST_AHEAD_MS + 1, u32::MAX, 1 << 31]),
         11..=16 => rng.pick(&[100, 1_000, 10_000, 30_000]),
@@ -70,8 +70,8 @@ pub(super) fn threshold_of_vbat(rng: &mut Rng, state: &State) -> u32 {
 }
 
 pub(super) fn threshold_of_ts(rng: &mut Rng, state: &State) -> u32 {
-    let control = &state.control;
-    let held = [control.th1(), control.th2(), control.th3(), control.th5()];
+    let stored = &state.stored;
+    let held = [stored.th1(), stored.th2(), stored.th3(), stored.th5()];
     let centre = match rng.within(0, 6) {
         0 => rng.pick(&[0, MOST_TS - 1, 55_000]),
         1 => rng.pick(&[70_900, 41_200, 37_700]),

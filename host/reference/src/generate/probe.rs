@@ -115,7 +115,7 @@ impl Walk {
             let cut = self.rng.within(1, 3);
             self.write_to(0x19, 0x97 | cut << 5);
             self.write_to(0x18, 0x95);
-            self.see(|sample, state| sample.ts = state.control.th3());
+            self.see(|sample, state| sample.ts = state.stored.th3());
         }
         let Some(state) = self.state() else { return };
         let share = RECHARGE[code as usize];
@@ -127,7 +127,7 @@ impl Walk {
         let ends_at = self.rng.pick(&[top, top.saturating_sub(10), uncut, uncut.saturating_sub(1)]);
         self.see(|sample, _| (sample.vbat, sample.ibat) = (ends_at, low_current));
         if self.rng.once_in(3) {
-            self.see(|sample, state| sample.ts = state.control.th1());
+            self.see(|sample, state| sample.ts = state.stored.th1());
             self.see(|sample, _| sample.ts = NORMAL_TS);
         }
         if self.rng.coin() {
@@ -155,8 +155,8 @@ impl Walk {
         self.write_to(0x1C, 0x08 - charge);
         let th = self.rng.within(0, 3);
         self.see(|sample, state| {
-            let control = &state.control;
-            sample.ts = [control.th1(), control.th2(), control.th3(), control.th5()][th as usize];
+            let stored = &state.stored;
+            sample.ts = [stored.th1(), stored.th2(), stored.th3(), stored.th5()][th as usize];
         });
     }
 
@@ -205,7 +205,7 @@ impl Walk {
         self.see(|sample, state| {
             sample.vbat = share_of(base_voltage(state), 900);
             if hot {
-                sample.ts = state.control.th5();
+                sample.ts = state.stored.th5();
             } else {
                 sample.bits = SHUTDOWN;
             }

@@ -5,10 +5,10 @@ use super::records::good_profile;
 use super::rng::Rng;
 use super::MOST_TS;
 use crate::event::Sample;
-use crate::pins::{Overrides, Pins};
-use crate::registers::{Control, WRITABLE};
+use crate::pins::Pins;
 use crate::settings::{Setting, Settings};
 use crate::state::{Comparators, Cycle, PerStage, Stage, State, MOST_AHEAD_MS, UNITS_PER_SECOND};
+use crate::stored::{Stored, WRITABLE};
 use crate::volts::CellMv;
 
 /// Any state that a model may hold, related or not to what a run makes.
@@ -19,13 +19,12 @@ pub fn any_state(rng: &mut Rng) -> State {
     let phase = rng.within(0, 7);
     let mut state = State {
         pins: Pins { cell: profile.cell, vchg: profile.vchg, ichg: profile.ichg },
-        overrides: Overrides { vchg: rng.coin(), cell: rng.coin(), ichg: rng.coin() },
         ohms: profile.ohms,
         ceiling: CellMv(profile.ceiling),
         limits,
         period: profile.watchdog,
         settings: any_settings(rng),
-        control: any_control(rng),
+        stored: any_stored(rng),
         comparators: any_comparators(rng),
         cycle: Cycle { times: any_times(rng, &limits, phase), done: rng.coin() },
         watchdog: any_below(rng, profile.watchdog * 1_000 + 1),
@@ -76,10 +75,10 @@ fn any_settings(rng: &mut Rng) -> Settings {
     settings
 }
 
-fn any_control(rng: &mut Rng) -> Control {
+fn any_stored(rng: &mut Rng) -> Stored {
     let mut bytes = WRITABLE.map(|mask| rng.any() as u8 & mask);
-    bytes[1] = bytes[1] & !7 | rng.within(1, 6) as u8;
-    Control(bytes)
+    bytes[0x16] = bytes[0x16] & !7 | rng.within(1, 6) as u8;
+    Stored(bytes)
 }
 
 fn any_comparators(rng: &mut Rng) -> Comparators {
@@ -110,10 +109,9 @@ fn spoil(rng: &mut Rng, state: &mut State) {
         4 => state.ceiling = CellMv(rng.pick(&[4_349, 4_715])),
         5 => state.period = 172_801,
         6 => spoil_setting(rng, &mut state.settings),
-        7 => state.control.0[0] |= rng.pick(&[0x04, 0x10, 0x80]),
-        8 => state.control.0[1] = state.control.0[1] & !7 | rng.pick(&[0, 7]),
-        9 => state.control.0[5] |= 0x10,
-        10 => state.watchdog = state.watchdog_end() + 1,
+        7 | 8 => spoil_stored(rng, &mut state.stored),
+        9 => state.stored.0[0x16] = state.stored.0[0x16] & !7 | rng.pick(&[0, 7]),
+        10 => state.watchdog = state.watchdog_end() as u32 + 1,
         11 => state.sample.vin = 45_001,
         12 => state.sample.vbat = 45_001,
         13 => state.sample.ibat = rng.pick(&[-10_001, 5_001]),
@@ -123,6 +121,18 @@ fn spoil(rng: &mut Rng, state: &mut State) {
         17 => state.flags = 4_096,
         _ => spoil_time(rng, state),
     }
+}
+
+/// Sets a bit that is no stored field's, from 0x00 to 0x27.
+fn spoil_stored(rng: &mut Rng, stored: &mut Stored) {
+    let others: Vec<(usize, u8)> = WRITABLE
+        .iter()
+        .enumerate()
+        .flat_map(|(address, mask)| (0..8).map(move |bit| (address, !mask & 1 << bit)))
+        .filter(|(_, bit)| *bit != 0)
+        .collect();
+    let (address, bit) = rng.pick(&others);
+    stored.0[address] |= bit;
 }
 
 fn spoil_setting(rng: &mut Rng, settings: &mut Settings) {
