@@ -81,33 +81,25 @@ static void the_example_as_it_grows(void) {
     shown(before, "the example log caught up with while it is being written");
 }
 
-/* What the example leaves: report, STAT, registers and the image's words. */
+/* What the example leaves: report, STAT and the image's words. */
 static void what_is_read(void) {
     int before = failures;
     struct head head;
     uint8_t report[CHEUKDANE_REPORT];
     const uint32_t wanted[6] = {3, 1500, 8400, 3300, 97, 0};
-    const uint32_t bytes[8] = {0x00, 0xE1, 0xAA, 0x95, 0xD7, 0x40, 0x2A, 0x04};
     start(&head);
     holds(cheukdane_report(head.image, sizeof head.image, report, sizeof report).number == 6, "no report before a power-on");
-    holds(cheukdane_register(head.image, sizeof head.image, 0).number == 6, "no register before a power-on");
     play(&head, EXAMPLE, sizeof EXAMPLE, 0);
     holds(cheukdane_report(head.image, sizeof head.image, report, sizeof report).number == 0, "a report after it");
     for (size_t at = 0; at < 6; at++) {
         holds(cheukdane_word(report, at) == wanted[at], "each of the report's numbers");
     }
-    for (uint32_t at = 0; at < 8; at++) {
-        struct cheukdane_byte byte = cheukdane_register(head.image, sizeof head.image, 0x15 + at);
-        holds(byte.number == 0 && byte.byte == bytes[at], "each register's byte");
-    }
-    holds(cheukdane_register(head.image, sizeof head.image, 0x14).number == 10, "0x14 is no register");
-    holds(cheukdane_register(head.image, sizeof head.image, 0x1D).number == 10, "0x1D is no register");
     holds(cheukdane_word(head.image, 0) == CHEUKDANE_FORMAT, "the image has this format");
     holds(cheukdane_word(head.image, CHEUKDANE_PHASE) == CHEUKDANE_PHASE_FAST, "the image is in phase 3");
     holds(cheukdane_word(head.image, CHEUKDANE_SETTINGS) == 8400, "the image's VREG");
     holds(cheukdane_word(head.image, CHEUKDANE_SAMPLE) == 1000, "the image's last stamp");
     holds(cheukdane_word(head.image, CHEUKDANE_FLAGS) == 97, "the image's flags");
-    shown(before, "report, STAT, registers and image after it");
+    shown(before, "report, STAT and image after it");
 }
 
 void show_the_example(void) {

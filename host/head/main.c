@@ -8,5 +8,6 @@ int main(void) {
     show_bad_images();
     show_refusals();
     show_resistors();
+    show_registers();
     return failures != 0;
 }
