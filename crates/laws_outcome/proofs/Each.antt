@@ -2,6 +2,7 @@
 use Rattle.base.proofs.Outcomes.{plain-settles}
 use Rattle.base.proofs.Contracts as base
 use Rattle.log_number.proofs.Contracts as number
+use Rattle.log_raw.proofs.Contracts as raw
 use Rattle.log_event.proofs.Contracts as kinds
 use Rattle.log_record.proofs.Contracts as log
 use Rattle.log_reader.proofs.Contracts as reader
@@ -27,6 +28,7 @@ every-call =
       plain = plain-settles;
       base = base.one-outcome;
       log-number = number.one-outcome;
+      log-raw = raw.one-outcome;
       log-event = kinds.one-outcome;
       log-record = log.one-outcome;
       log-reader = reader.one-outcome;

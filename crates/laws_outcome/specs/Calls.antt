@@ -3,6 +3,7 @@
 use Rattle.base.specs.Outcomes.{PlainSettles}
 use Rattle.base.specs.Contracts as base
 use Rattle.log_number.specs.Contracts as number
+use Rattle.log_raw.specs.Contracts as raw
 use Rattle.log_event.specs.Contracts as kinds
 use Rattle.log_record.specs.Contracts as log
 use Rattle.log_reader.specs.Contracts as reader
@@ -27,6 +28,7 @@ pub record EveryCall : Type 1 where
   -- the crates that have calls with a named promise, in the order of the crates
   pub base : base.OneOutcome
   pub log-number : number.OneOutcome
+  pub log-raw : raw.OneOutcome
   pub log-event : kinds.OneOutcome
   pub log-record : log.OneOutcome
   pub log-reader : reader.OneOutcome
