@@ -51,36 +51,37 @@ typedef char cheukdane_size_t_has_64_bits[sizeof(size_t) == 8 ? 1 : -1];
  *   1  the base
  *   2  the recharge point is a share of the charge voltage, after the warm cut, and not of the voltage before it
  *   3  the place of 1, 2 and 3 is that of the byte that decided it, and not the record's start; replay tells `next`
- *   4  kind 9 is a power-on by its resistors, and not 4 */
-#define CHEUKDANE_RULES 4
+ *   4  kind 9 is a power-on by its resistors, and not 4
+ *   5  the model holds the stored fields of the whole register map, and every address can be read */
+#define CHEUKDANE_RULES 5
 
 /* ---- Images ---- */
 
 /* The format of an image: it moves with the rules, so that no model is carried over from other rules. It is never 0. */
-#define CHEUKDANE_FORMAT 4
+#define CHEUKDANE_FORMAT 5
 
-/* Bytes of an image: 54 words. Word 0 is 0 before a power-on, and then all other words are 0 too; after it, it is the
+/* Bytes of an image: 55 words. Word 0 is 0 before a power-on, and then all other words are 0 too; after it, it is the
  * format's number, CHEUKDANE_FORMAT, and the state's numbers follow, from these words on; a yes or no is 1 or 0. So
  * zeroed bytes are the image of a model that is off, in every format. Every model has exactly one image, and bytes are
- * an image only if they are a model's: another format, a yes or no above 1, a byte above 255, or a phase, band or flags
- * that aren't, make them none. A number outside what the model may hold makes an image all the same: an event on it is
- * 5.
+ * an image only if they are a model's: another format, a yes or no above 1, or a phase, band or flags that aren't, make
+ * them none. A number outside what the model may hold makes an image all the same, and so does a bit of the registers'
+ * words that is no stored field's: an event on it is 5.
  *
  * An image may be stored and lent again later, also by a head of another make: it has no padding and no pointer. It has
  * no checksum: bytes that were changed in storage load if they are some model's image, so whoever stores an image keeps
  * a checksum beside it. An image of another format, an older one too, is 5: such a head starts from zeroed bytes and
  * replays the log. */
-#define CHEUKDANE_IMAGE 216
+#define CHEUKDANE_IMAGE 220
 #define CHEUKDANE_PROFILE 1    /* a power-on's ten numbers, in kind 1's order; of kind 9 the codes, not the ohms */
 #define CHEUKDANE_SETTINGS 11  /* settings 1 to 14 */
-#define CHEUKDANE_REGISTERS 25 /* the bytes 0x15 to 0x1A; CELL_PIN; the VCHG, CELL and ICHG overrides */
-#define CHEUKDANE_LATCHES 35   /* VIN ok, VIN over, short, low, battery over */
-#define CHEUKDANE_CYCLE 40     /* trickle, precharge and fast time in half milliseconds; done */
-#define CHEUKDANE_WATCHDOG 44  /* milliseconds since it was zeroed, at most its period */
-#define CHEUKDANE_SAMPLE 45    /* the last observation's six numbers, in the log's order; its stamp is the last stamp */
-#define CHEUKDANE_PHASE 51     /* 0 to 7 */
-#define CHEUKDANE_BAND 52      /* 0 normal, 1 cold, 2 hot, 3 cool, 4 warm */
-#define CHEUKDANE_FLAGS 53     /* the held flags, bits 0 to 11 */
+#define CHEUKDANE_REGISTERS 25 /* ten words, the stored fields of 0x00 to 0x27, four addresses to a word; CELL_PIN */
+#define CHEUKDANE_LATCHES 36   /* VIN ok, VIN over, short, low, battery over */
+#define CHEUKDANE_CYCLE 41     /* trickle, precharge and fast time in half milliseconds; done */
+#define CHEUKDANE_WATCHDOG 45  /* milliseconds since it was zeroed, at most its period */
+#define CHEUKDANE_SAMPLE 46    /* the last observation's six numbers, in the log's order; its stamp is the last stamp */
+#define CHEUKDANE_PHASE 52     /* 0 to 7 */
+#define CHEUKDANE_BAND 53      /* 0 normal, 1 cold, 2 hot, 3 cool, 4 warm */
+#define CHEUKDANE_FLAGS 54     /* the held flags, bits 0 to 11 */
 
 /* ---- Names for the paper's numbers ---- */
 
@@ -112,7 +113,7 @@ enum {
     CHEUKDANE_REFUSED_STAMP_AHEAD = 7,      /* the stamp is more than 3,600,000 ms ahead */
     CHEUKDANE_REFUSED_UNKNOWN_SETTING = 8,  /* no setting has that number */
     CHEUKDANE_REFUSED_BAD_VALUE = 9,        /* outside the setting's range or off its step */
-    CHEUKDANE_REFUSED_UNKNOWN_ADDRESS = 10, /* no register has that address */
+    CHEUKDANE_REFUSED_UNKNOWN_ADDRESS = 10, /* a write at an address that isn't 0x15 to 0x1C */
     CHEUKDANE_REFUSED_BAD_FREQUENCY = 11,   /* FSW written 0 or 7 */
     CHEUKDANE_REFUSED_NO_ROOM = 12,         /* what is to be written is longer than the room */
     CHEUKDANE_REFUSED_INPUT_TOO_LONG = 13,  /* of runlog and partlog alone: an input above 65,536 bytes */
@@ -321,7 +322,9 @@ struct cheukdane_answer cheukdane_event(uint8_t *image, size_t image_length, uin
 struct cheukdane_answer cheukdane_report(const uint8_t *image, size_t image_length, uint8_t *report,
                                          size_t report_length);
 
-/* A register's byte; 6 before a power-on, then 10 for an address that isn't 0x15 to 0x1C. */
+/* A register's byte, as the data sheet lays it out in its section 6.5; 6 before a power-on. Any address answers:
+ * a byte of 0x00 to 0x26, and 0xFF outside. A sixteen-bit register has its lower byte at its address and its upper one
+ * at the next. Nothing changes: a flag register shows the held flags and clears none. docs/REGISTERS.md is the map. */
 struct cheukdane_byte cheukdane_register(const uint8_t *image, size_t image_length, uint32_t address);
 
 /* Writes an event's record at the start of `out`; 12 if it doesn't fit. Kind and words as for cheukdane_event; the

@@ -4,13 +4,15 @@ use native.Mathlib.Nat.{mod-lt, mod-eq-of-lt}
 use native.Mathlib.Omega.{arith}
 use mathlib.Core.Path.{_≡_, refl, ap, subst, _∙_}
 use mathlib.Core.Bool.{Bool, true, false, not, _&&_, false≢true}
-use borrow.Author.Tests.{ltb-true}
-use lib.Dec.{eqb, ltb}
+use lib.Dec.{eqb}
+use lib.ListN.{getD}
 use lib.Pow.{pow-pos}
 use Rattle.base.specs.Pick.{pick}
 use Rattle.state_parts.specs.declared.sample.Sample.{Sample}
 use Rattle.state_table.specs.Rows.{Field, fields, digitOf, cellPin, tsTh1, tsTh2, tsTh3, tsTh5, enTs, enJeita, jeitaIsetc, jeitaIseth, jeitaVset, vchgOverride, cellOverride, ichgOverride}
-use Rattle.state_table.proofs.Tested.{every, at, long}
+use Rattle.state_table.specs.Packed as packed
+use Rattle.state_table.specs.Packed.{noField}
+use Rattle.state_table.proofs.Whole.{resets-fit}
 use Rattle.state_fields.specs.Held.{fieldIn, fieldOf, gathered, restoredBy}
 use Rattle.state_fields.proofs.Gathers.{nth, stored, gathered-field, gathered-each}
 use Rattle.state_fields.proofs.Restores.{gathered-same}
@@ -23,12 +25,7 @@ use Rattle.laws_account.specs.History.{Run, powered, _▸_}
 use Rattle.laws_account.specs.Held.{profileOf, expired, isOverride, takes, cellsOf, fieldAt}
 use Rattle.laws_account.specs.States.{registersAt}
 
--- every reset of the table fits its field
-resets-fit : every (λ (f : Field). ltb (f .reset) (2 ^ f .width)) fields ≡ true
-unfolding fields
-resets-fit = refl
-
--- so does every code that a run gives it
+-- every code that a run gives a field fits it
 pub small : (f : Field) → f .reset < 2 ^ f .width → (r : Run) → fieldAt f r < 2 ^ f .width
 unfolding fieldAt
 small f h (powered p) = h
@@ -53,11 +50,12 @@ small f h (r ▸ Reset) = go (f .restored) (small f h r)
 
 -- a stored field of the run's registers is the account's
 pub field-is : (r : Run) (i : ℕ) → i < 147 → (f : Field) → nth i ≡ f → stored f ≡ true → fieldOf f (registersAt r) ≡ fieldAt f r
-unfolding registersAt
+unfolding registersAt packed.fieldAt
 field-is r i h f same kept =
-    let fits : ltb (f .reset) (2 ^ f .width) ≡ true = subst (λ (g : Field). ltb (g .reset) (2 ^ g .width) ≡ true) same (at (λ (g : Field). ltb (g .reset) (2 ^ g .width)) fields i resets-fit (rw long h)) in
+    let place : packed.fieldAt i ≡ nth i = ap (λ (n : ℕ). getD fields n noField) (mod-eq-of-lt h) in
+    let fits : f .reset < 2 ^ f .width = subst (λ (g : Field). g .reset < 2 ^ g .width) (place ∙ same) (resets-fit i) in
     subst (λ (g : Field). fieldIn g (gathered (profileOf r) (λ (k : Field). fieldAt k r)) ≡ pick (stored g) (fieldAt g r % 2 ^ g .width) 0) same (gathered-field (profileOf r) (λ (g : Field). fieldAt g r) i h)
-    ∙ ap (λ (t : Bool). pick t (fieldAt f r % 2 ^ f .width) 0) kept ∙ mod-eq-of-lt (small f (ltb-true (f .reset) (2 ^ f .width) fits) r)
+    ∙ ap (λ (t : Bool). pick t (fieldAt f r % 2 ^ f .width) 0) kept ∙ mod-eq-of-lt (small f fits r)
 
 module _ (r : Run) where
   pub th1 : fieldOf tsTh1 (registersAt r) ≡ fieldAt tsTh1 r

@@ -5,7 +5,7 @@ use mathlib.Core.Bool.{true, _&&_}
 use lib.Dec.{leb, ltb, eqb}
 use lib.ListN.{getD, length}
 use native.Mathlib.Omega.{arith}
-use borrow.Author.Tests.{ltb-true, leb-true}
+use borrow.Author.Tests.{ltb-true, leb-true, eqb-true}
 use Rattle.base.proofs.Span.{tested}
 use Rattle.base.proofs.Tests.{and-iff}
 use Rattle.state_parts.specs.declared.profile.Profile.{Profile}
@@ -34,3 +34,6 @@ module _ (p : Profile) (number value : ℕ) (e : mayHold p number value ≡ true
 
   pub at-most : value ≤ rangeOf p number .high
   at-most = leb-true _ _ (and-iff (leb (rangeOf p number .low) value) (leb value (rangeOf p number .high)) .0 bounds .1)
+
+  pub on-step : value % rangeOf p number .step ≡ 0
+  on-step = eqb-true _ _ (and-iff (leb (rangeOf p number .low) value && leb value (rangeOf p number .high)) (eqb (value % rangeOf p number .step) 0) .0 inside .1)

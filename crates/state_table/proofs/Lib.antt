@@ -3,3 +3,4 @@ pub mod Tested
 pub mod Unpacked
 pub mod Turns
 pub mod Parts
+pub mod Whole

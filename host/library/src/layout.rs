@@ -2,7 +2,7 @@
 //! words stand.
 
 /// The number of the rules.
-pub const RULES: u32 = 4;
+pub const RULES: u32 = 5;
 /// The format of an image: word 0 of a model that is on.
 pub const FORMAT: u32 = 5;
 /// Bytes of a word.

@@ -8,7 +8,7 @@ use std::ops::RangeInclusive;
 use std::path::{Path, PathBuf};
 
 /// The registers whose bytes the stored lines of `state` have.
-const BYTES: RangeInclusive<u32> = 0x15..=0x1C;
+const BYTES: RangeInclusive<u32> = 0x00..=0x26;
 
 /// The longest input a program takes.
 const MOST_INPUT: usize = 65_536;

@@ -10,7 +10,7 @@ use std::path::{Path, PathBuf};
 use reference::{partlog, runlog, statelog};
 
 /// The registers whose bytes the lines of `state` have.
-const BYTES: RangeInclusive<u32> = 0x15..=0x1C;
+const BYTES: RangeInclusive<u32> = 0x00..=0x26;
 
 fn vectors() -> PathBuf {
     match std::env::var_os("CHEUKDANE_VECTORS") {
