@@ -2,3 +2,4 @@
 pub mod Cases
 pub mod Rows
 pub mod Requested
+pub mod Started
