@@ -3,7 +3,7 @@ use Prim.Native.Nat.{_≤_}
 use native.Mathlib.Omega.{arith}
 use Rattle.base.specs.Refusals.{refusalNumber}
 use Rattle.base.specs.declared.refusal.Refusal.{Refusal}
-use Rattle.base.specs.declared.refusal.Refusal.the-variants.{EndsInside, ZeroGroup, TooLarge, UnknownKind, OutOfRange, NotPowered, StampAhead, UnknownSetting, BadValue, UnknownAddress, BadFrequency, NoRoom, InputTooLong, LogsPart}
+use Rattle.base.specs.declared.refusal.Refusal.the-variants.{EndsInside, ZeroGroup, TooLarge, UnknownKind, OutOfRange, NotPowered, StampAhead, UnknownSetting, BadValue, UnknownAddress, BadFrequency, NoRoom, InputTooLong, LogsPart, HalfRegister}
 
 pub some-number : (r : Refusal) → 1 ≤ refusalNumber r
 some-number EndsInside = omega arith
@@ -20,3 +20,4 @@ some-number BadFrequency = omega arith
 some-number NoRoom = omega arith
 some-number InputTooLong = omega arith
 some-number LogsPart = omega arith
+some-number HalfRegister = omega arith
