@@ -13,7 +13,7 @@ use Rattle.state_parts.specs.Stages.{charging}
 use Rattle.state_parts.specs.declared.phase.Phase.{Phase}
 use Rattle.state_parts.specs.declared.phase.Phase.the-variants.{Idle, Trickle, Precharge, Fast, Taper, Done, Suspended, Fault}
 use Rattle.state_table.specs.Rows.{Field, fields, fieldsOf, mapSize, over, shifted, isStored}
-use Rattle.state_table.specs.Packed.{noField}
+use Rattle.state_table.specs.Packed.{noField, upperHalf}
 use Rattle.state_table.specs.declared.Access.{Access}
 use Rattle.state_table.specs.declared.Access.the-variants.{Reserved, Fixed, Status, Flag, Stored, Setting, Mask, Counted, Pin, Acts}
 use Rattle.state_table.proofs.Tested.{long}
@@ -24,7 +24,7 @@ use Rattle.settle_permission.specs.Limits.{reachedOf}
 use Rattle.step_flags.specs.Edges.{seenOf}
 use Rattle.report_state.specs.declared.answer.Stat.the-variants.{Low, Blinking, High}
 use Rattle.report_state.specs.Stats.{statOf}
-use Rattle.report_registers.specs.Reads.{chargeStat, statuses, statusOf, codeBy, codeOf, valueBy, upperHalf, byteBy, readOf, readRegisterOf}
+use Rattle.report_registers.specs.Reads.{chargeStat, statuses, statusOf, codeBy, codeOf, valueBy, byteBy, readOf, readRegisterOf}
 use Rattle.laws_account.specs.History.{Run}
 use Rattle.laws_account.specs.Held.{profileOf, sampleOf, fieldAt}
 use Rattle.laws_account.specs.Valued.{enabled}

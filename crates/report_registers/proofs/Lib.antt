@@ -1,3 +1,4 @@
 -- The crate's laws.
 pub mod Sums
+pub mod FlagRows
 pub mod Contracts

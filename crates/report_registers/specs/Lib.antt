@@ -1,3 +1,4 @@
 -- The crate's definitions.
 pub mod Reads
+pub mod Theorems
 pub mod Contracts

@@ -1,6 +1,6 @@
 -- 02, R-3: "Reads outside the map return 0xFF, not 10." "Status fields are read from the model's phase and flags."
 use Prim.Native.Nat.{ℕ, _+_, _-_, _*_, _/_, _%_, _^_}
-use mathlib.Core.Bool.{Bool, not}
+use mathlib.Core.Bool.{Bool, not, _||_}
 use mathlib.Core.List.{List, [], _∷_}
 use lib.ListN.{getD}
 use lib.Dec.{leb, eqb}
@@ -8,7 +8,7 @@ use Rattle.base.specs.Pick.{pick, bitOf}
 use Rattle.base.specs.Refusals.{refusalNumber}
 use Rattle.base.specs.Told.{Told, accepted, refused}
 use Rattle.state_table.specs.Rows.{Field, fields, fieldsOf, mapSize, over, shifted}
-use Rattle.state_table.specs.Packed.{below}
+use Rattle.state_table.specs.Packed.{upperHalf}
 use Rattle.state_table.specs.declared.Access.{Access}
 use Rattle.state_table.specs.declared.Access.the-variants.{Reserved, Fixed, Status, Flag, Stored, Setting, Mask, Counted, Pin, Acts}
 use Rattle.state_fields.specs.Words.{bitsAt}
@@ -83,10 +83,7 @@ codeOf s f = codeBy (f .access) s f
 unfoldable pub valueBy : Profile → (Field → ℕ) → ℕ → ℕ
 valueBy p code address = over (λ (f : Field). eqb (f .address) address) (λ (n : ℕ) (f : Field). n + shifted f (code f)) (fieldsOf p) 0
 
--- "Sixteen-bit registers are little-endian": an address that no field has is the upper half of the register before it
-abbrev pub upperHalf : Profile → ℕ → Bool
-upperHalf p address = eqb (below address (fieldsOf p)) (below (address + 1) (fieldsOf p))
-
+-- "Sixteen-bit registers are little-endian"
 unfoldable pub byteBy : Profile → (Field → ℕ) → ℕ → ℕ
 byteBy p code address =
     pick (leb mapSize address) 0xFF
@@ -95,6 +92,26 @@ byteBy p code address =
 -- what the host reads at an address
 unfoldable pub readOf : State → ℕ → ℕ
 readOf s address = byteBy (s .profile) (codeOf s) address
+
+-- the flag registers: "PG 0 and 1, IINDPM 2, VINDPM 3, .." by the table's rows
+abbrev pub flagRegister : Profile → ℕ → Bool
+flagRegister p address = eqb address 0x20 || eqb address 0x21
+
+abbrev pub flagBy : Access → ℕ → ℕ
+flagBy Reserved flags = 0
+flagBy (Fixed value) flags = 0
+flagBy (Status number) flags = 0
+flagBy (Flag first count) flags = anyOf first count flags
+flagBy Stored flags = 0
+flagBy (Setting number step) flags = 0
+flagBy (Mask first count) flags = 0
+flagBy Counted flags = 0
+flagBy (Pin number) flags = 0
+flagBy (Acts number) flags = 0
+
+-- the byte of a flag register while these flags are held
+unfoldable pub flagByte : Profile → ℕ → ℕ → ℕ
+flagByte p address flags = valueBy p (λ (f : Field). flagBy (f .access) flags) address % 256
 
 -- "6 before a power-on, else a byte"
 unfoldable pub readRegisterOf : Model → ℕ → Told ℕ

@@ -42,7 +42,7 @@ fn status(x: Seen, number: u32) -> u32
 }
 
 // 1 if one of some bits is.
-fn any_of(n: u32, first: u32, count: u32) -> u32
+pub(crate) fn any_of(n: u32, first: u32, count: u32) -> u32
     requires { ⌜ first + count ≤ 31 ⌝ }
     ensures { λ r. ⌜ r ≡ anyOf first count n ⌝ }
 {

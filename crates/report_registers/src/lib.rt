@@ -13,6 +13,7 @@ use state_table::rows_below;
 use step_flags::between;
 
 pub mod codes;
+pub mod flags;
 
 pub enum ReadAnswer {
     Byte(u8),
@@ -20,7 +21,7 @@ pub enum ReadAnswer {
 }
 
 // A code at its field's place.
-fn placed(code: u32, low: u32, width: u32) -> u32
+pub(crate) fn placed(code: u32, low: u32, width: u32) -> u32
     requires { ⌜ (low ≤ 15) × (width ≤ 16) ⌝ }
     ensures { λ r. ⌜ (r ≡ code % 2 ^ width * 2 ^ low) × (r ≤ 0x7FFF8000) ⌝ }
 {

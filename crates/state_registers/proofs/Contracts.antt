@@ -10,7 +10,7 @@ use Rattle.state_registers.specs.Contracts.{OneOutcome}
 use Rattle.state_registers.specs.Writes.{writeTold}
 use Rattle.state_registers.specs.declared.writing.WriteAnswer.the-variants as writing
 
-write-settled : Settled writeTold
+pub write-settled : Settled writeTold
 write-settled (writing.Stored a) (writing.Stored b) e = cc
 write-settled (writing.Stored a) (writing.Refused r) e = absurd (let z : _≡_ {A = ℕ} 0 1 = cc in omega arith)
 write-settled (writing.Refused r) (writing.Stored b) e = absurd (let z : _≡_ {A = ℕ} 0 1 = cc in omega arith)

@@ -33,7 +33,7 @@ use Rattle.state_registers.specs.Resets.{resetRegisters, resetOf}
 use Rattle.state_registers.specs.Writes.{countTaken, recounted, writtenRegisters, writtenTo}
 
 -- what is chosen passes if each of the two does
-pick-passes : {A : Type 0} (test : A → Bool) (t : Bool) (one other : A) → (t ≡ true → test one ≡ true) → test other ≡ true → test (pick t one other) ≡ true
+pub pick-passes : {A : Type 0} (test : A → Bool) (t : Bool) (one other : A) → (t ≡ true → test one ≡ true) → test other ≡ true → test (pick t one other) ≡ true
 pick-passes test true one other h k = h refl
 pick-passes test false one other h k = k
 
@@ -71,19 +71,19 @@ module _ (p : Profile) (b : ProfileBounds p) (cells : ℕ) (least : 1 ≤ cells)
   recount-passes = by-fault (eqb (p .vchg) 0) refl
 
 -- the parts of a test of the registers
-record Parts (p : Profile) (g : Registers) : Type 0 where
-  words : wordsOk p (g .words) ≡ true
-  frequency : frequencyOk p (fieldOf fsw g) ≡ true
-  few : leb (g .cells) 7 ≡ true
+pub record Parts (p : Profile) (g : Registers) : Type 0 where
+  pub words : wordsOk p (g .words) ≡ true
+  pub frequency : frequencyOk p (fieldOf fsw g) ≡ true
+  pub few : leb (g .cells) 7 ≡ true
 
-parts-apart : (p : Profile) (g : Registers) → registersOk p g ≡ true → Parts p g
+pub parts-apart : (p : Profile) (g : Registers) → registersOk p g ≡ true → Parts p g
 unfolding registersOk
 parts-apart p g e =
     let k = and-iff (wordsOk p (g .words) && frequencyOk p (fieldOf fsw g)) (leb (g .cells) 7) .0 e in
     let l = and-iff (wordsOk p (g .words)) (frequencyOk p (fieldOf fsw g)) .0 (k .0) in
     record { words = l .0; frequency = l .1; few = k .1 }
 
-parts-whole : (p : Profile) (g : Registers) → Parts p g → registersOk p g ≡ true
+pub parts-whole : (p : Profile) (g : Registers) → Parts p g → registersOk p g ≡ true
 unfolding registersOk
 parts-whole p g k = simp (k .words, k .frequency, k .few)
 
@@ -92,7 +92,7 @@ fsw-nth : nth 62 ≡ fsw
 unfolding fields
 fsw-nth = refl
 
-fsw-written : (p : Profile) (a b : ℕ) (w : Words) → wordsOk p w ≡ true → fieldIn fsw (takenBy p a b w) ≡ pick (eqb 0x16 a) (digitOf fsw b) (fieldIn fsw w)
+pub fsw-written : (p : Profile) (a b : ℕ) (w : Words) → wordsOk p w ≡ true → fieldIn fsw (takenBy p a b w) ≡ pick (eqb 0x16 a) (digitOf fsw b) (fieldIn fsw w)
 fsw-written p a b w ok =
     subst (λ (f : Field). fieldIn f (takenBy p a b w) ≡ pick (stored f && eqb (f .address) a) (digitOf f b) (fieldIn f w)) fsw-nth
     (taken-field p a b w (sound-whole p w ok) 62 (omega arith))
@@ -111,6 +111,13 @@ fsw-restored p w =
 not-zero : (n : ℕ) → not (eqb n 0) ≡ true → 1 ≤ n
 not-zero zero e = absurd (false≢true e)
 not-zero (suc n) e = omega arith
+
+-- a count that is taken isn't 0
+pub some-count : (g : Registers) (a b : ℕ) → countTaken g a b ≡ true → 1 ≤ digitOf cellPin b
+some-count g a b taken =
+    let some = not (eqb (digitOf cellPin b) 0) in
+    let k = and-iff (eqb a 0x1B && isSet cellOverride g && some) (not (eqb (digitOf cellPin b) (g .cells))) .0 taken in
+    not-zero (digitOf cellPin b) (and-iff (eqb a 0x1B && isSet cellOverride g) some .0 (k .0) .1)
 
 reset-registers-pass : (p : Profile) (g : Registers) → registersOk p g ≡ true → registersOk p (resetRegisters p g) ≡ true
 unfolding resetRegisters
@@ -152,14 +159,6 @@ module _ (s : State) (e : stateOk s ≡ true) where
           few = pick-passes (λ (n : ℕ). leb n 7) count (digitOf cellPin b) (g .cells) (λ _. le-leb (digitOf cellPin b) 7 (omega arith)) (k .few);
         })
 
-    -- a count that is taken isn't 0
-    some-count : count ≡ true → 1 ≤ digitOf cellPin b
-    some-count taken =
-        let g = s .registers in
-        let some = not (eqb (digitOf cellPin b) 0) in
-        let k = and-iff (eqb a 0x1B && isSet cellOverride g && some) (not (eqb (digitOf cellPin b) (g .cells))) .0 taken in
-        not-zero (digitOf cellPin b) (and-iff (eqb a 0x1B && isSet cellOverride g) some .0 (k .0) .1)
-
     pub write-passes : stateOk (writtenTo s a b) ≡ true
     unfolding writtenTo
     write-passes =
@@ -167,7 +166,7 @@ module _ (s : State) (e : stateOk s ≡ true) where
         whole (writtenTo s a b) (record {
           profile = parts .profile;
           settings = pick-passes (settingsOk (s .profile)) count (recounted (s .profile) (digitOf cellPin b) (s .settings)) (s .settings)
-              (λ taken. recount-passes (s .profile) p (digitOf cellPin b) (some-count taken) (omega arith) (s .settings) (parts .settings)) (parts .settings);
+              (λ taken. recount-passes (s .profile) p (digitOf cellPin b) (some-count (s .registers) a b taken) (omega arith) (s .settings) (parts .settings)) (parts .settings);
           registers = written-passes;
           cycle = parts .cycle;
           watchdog = parts .watchdog;

@@ -30,7 +30,7 @@ fn known(address: u32) -> bool
 }
 
 // A written cell count is taken.
-fn count_taken(g: Registers, address: u32, byte: u32) -> bool
+pub fn count_taken(g: Registers, address: u32, byte: u32) -> bool
     ensures { λ r. ⌜ r ≡ countTaken g address byte ⌝ }
 {
     let overridden = named::cell_override(g);
@@ -40,7 +40,7 @@ fn count_taken(g: Registers, address: u32, byte: u32) -> bool
 }
 
 // The settings after a cell count is taken.
-fn recount(p: Profile, cells: u32, t: Settings) -> Settings
+pub fn recount(p: Profile, cells: u32, t: Settings) -> Settings
     ensures { λ r. ⌜ r ≡ recounted p cells t ⌝ }
 {
     let fault = p.vchg == 0;
@@ -55,7 +55,7 @@ fn recount(p: Profile, cells: u32, t: Settings) -> Settings
 }
 
 // The first settings if the test holds, else the other.
-fn either(test: bool, one: Settings, other: Settings) -> Settings
+pub fn either(test: bool, one: Settings, other: Settings) -> Settings
     ensures { λ r. ⌜ r ≡ pick test one other ⌝ }
 {
     if test { one } else { other }

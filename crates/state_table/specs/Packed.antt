@@ -6,7 +6,8 @@ use lib.ListN.{getD}
 use mathlib.Core.Bool.{Bool, true, false, _&&_}
 use mathlib.Core.List.{List, [], _∷_}
 use Rattle.base.specs.Pick.{pick}
-use Rattle.state_table.specs.Rows.{Field, row, fields, bitOf}
+use Rattle.state_parts.specs.declared.profile.Profile.{Profile}
+use Rattle.state_table.specs.Rows.{Field, row, fields, fieldsOf, bitOf}
 use Rattle.state_table.specs.declared.Access.{Access}
 use Rattle.state_table.specs.declared.Access.the-variants.{Reserved, Fixed, Status, Flag, Stored, Setting, Mask, Counted, Pin, Acts}
 use Rattle.state_table.specs.declared.Row.{Row}
@@ -95,6 +96,10 @@ packedAt number = packedOf (fieldAt number)
 abbrev pub below : ℕ → List Field → ℕ
 below address [] = 0
 below address (f ∷ fs) = pick (ltb (f .address) address) (1 + below address fs) 0
+
+-- "Sixteen-bit registers are little-endian": an address that no field has is the upper half of the register before it
+abbrev pub upperHalf : Profile → ℕ → Bool
+upperHalf p address = eqb (below address (fieldsOf p)) (below (address + 1) (fieldsOf p))
 
 -- what the code needs of an access: a setting has a step, and flags and masks are bits of a number of 32
 abbrev pub fitsAccess : Access → Bool

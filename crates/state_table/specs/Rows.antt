@@ -54,6 +54,13 @@ jeitaIseth = row 0x19 4 1 Stored 1 true
 abbrev pub jeitaVset : Field
 jeitaVset = row 0x19 5 2 Stored 2 true
 
+-- the two bits that act: a register reset, and a service of the watchdog
+abbrev pub regRst : Field
+regRst = row 0x10 7 1 (Acts 0) 0 true
+
+abbrev pub wdRst : Field
+wdRst = row 0x12 2 1 (Acts 1) 0 true
+
 abbrev pub cellPin : Field
 cellPin = row 0x1B 0 3 Counted 0 false
 
@@ -105,7 +112,7 @@ fields =
     ∷ row 0x10 3 1 (Setting 10 1) 0 true  -- EN_TERM
     ∷ row 0x10 4 2 (Setting 8 1) 0 true  -- VRECHG
     ∷ row 0x10 6 1 (Setting 13 1) 0 true  -- DIS_STAT
-    ∷ row 0x10 7 1 (Acts 0) 0 true  -- REG_RST
+    ∷ regRst  -- REG_RST
     ∷ row 0x11 0 1 Stored 1 true  -- EN_TMR2X
     ∷ row 0x11 1 2 Stored 2 true  -- CHG_TMR
     ∷ row 0x11 3 1 Stored 1 true  -- EN_CHG_TMR
@@ -113,7 +120,7 @@ fields =
     ∷ row 0x11 6 2 Stored 0 true  -- TOPOFF_TMR
     ∷ row 0x12 0 1 Stored 0 true  -- PRECHG_TMR
     ∷ row 0x12 1 1 Stored 0 false  -- STOP_WD_CHG
-    ∷ row 0x12 2 1 (Acts 1) 0 true  -- WD_RST
+    ∷ wdRst  -- WD_RST
     ∷ row 0x12 3 1 Stored 0 true  -- EN_EXT_BYPASS
     ∷ row 0x12 4 1 Stored 0 true  -- EN_BYPASS
     ∷ row 0x12 5 1 Stored 0 true  -- RBAT_SNS

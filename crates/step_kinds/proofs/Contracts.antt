@@ -46,5 +46,7 @@ one-outcome =
       opened = λ p. contract-settles _ _ _ change-settled _;
       set = λ s number value. contract-settles _ _ _ change-settled _;
       write = λ s address byte. contract-settles _ _ _ change-settled _;
+      write-run = λ s address raw. contract-settles _ _ _ change-settled _;
+      read-flags = λ s address. contract-settles _ _ _ change-settled _;
       finish = λ before written way. contract-settles _ _ _ finished-settled _;
     }

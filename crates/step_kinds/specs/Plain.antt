@@ -9,10 +9,14 @@ use Rattle.state_parts.specs.declared.state.State.{State}
 use Rattle.state_start.specs.Values.{startState, startWatchdog}
 use Rattle.state_settings.specs.Ranges.{knownSetting, mayHold}
 use Rattle.state_settings.specs.Numbered.{storeOf}
+use Rattle.log_raw.specs.Raw.{Raw}
+use Rattle.report_registers.specs.Reads.{flagRegister}
+use Rattle.state_registers.specs.Resets.{resetOf}
 use Rattle.state_registers.specs.Writes.{writeOf}
+use Rattle.state_runs.specs.Runs.{runOf, resets, serves}
 use Rattle.step_kinds.specs.Changes.{Changed, changed}
 use Rattle.step_kinds.specs.declared.change.Way.{Way}
-use Rattle.step_kinds.specs.declared.change.Way.the-variants.{Plain, Powers}
+use Rattle.step_kinds.specs.declared.change.Way.the-variants.{Plain, Reads, Powers}
 
 -- "1 power-on": all that is held begins anew
 abbrev pub openedAs : Profile → Told Changed
@@ -36,3 +40,21 @@ writtenOf s address byte = afterWrite (writeOf s address byte)
 -- "it rests until service or a reset zeroes it"
 abbrev pub servicedOf : State → State
 servicedOf s = withWatchdog s startWatchdog
+
+-- 02, R-3: "Reset and service bits act as kinds 7 and 6 after the run's other bytes."
+unfoldable pub actedOf : State → ℕ → Raw → State
+actedOf s address raw =
+    let reset = pick (resets address raw) (resetOf s) s in
+    pick (serves address raw) (servicedOf reset) reset
+
+-- "Write runs are kind 8": the refusals are the registers' answer
+abbrev pub afterRun : Told State → ℕ → Raw → Told Changed
+afterRun (accepted written) address raw = changed (actedOf written address raw) Plain
+afterRun (refused number) address raw = refused number
+
+unfoldable pub runFrom : State → ℕ → Raw → Told Changed
+runFrom s address raw = afterRun (runOf s address raw) address raw
+
+-- "kind 14 on no flag register, is 10"
+unfoldable pub readFlagsOf : State → ℕ → Told Changed
+readFlagsOf s address = pick (not (flagRegister (s .profile) address)) (refused 10) (changed s (Reads address))

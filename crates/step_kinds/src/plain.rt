@@ -1,16 +1,23 @@
 // The kinds of events that time has no part in: what each writes, or its refusal.
 ghost use mathlib.Core.Path.{_≡_};
 ghost use Rattle.state_parts.specs.With.{withSettings};
-ghost use Rattle.step_kinds.specs.Plain.{servicedOf};
-ghost use Rattle.step_kinds.specs.Contracts.{OpenedPromise, SetPromise, WritePromise};
+ghost use Rattle.base.specs.Pick.{pick};
+ghost use Rattle.log_raw.specs.Struct.{rawOf};
+ghost use Rattle.state_registers.specs.Resets.{resetOf};
+ghost use Rattle.step_kinds.specs.Plain.{servicedOf, actedOf};
+ghost use Rattle.step_kinds.specs.Contracts.{OpenedPromise, SetPromise, WritePromise, RunPromise, ReadFlagsPromise};
 use crate::change::Change;
 use crate::change::Way;
 use base::refusal::Refusal;
+use log_raw::RawBytes;
+use report_registers::flags;
 use state_parts::profile::Profile;
 use state_parts::settings::Settings;
 use state_parts::state::State;
+use state_registers::resetting;
 use state_registers::writing;
 use state_registers::writing::WriteAnswer;
+use state_runs::run;
 use state_settings::numbered;
 use state_settings::ranges;
 
@@ -62,4 +69,49 @@ pub fn serviced(s: State) -> State
     let mut r = s;
     r.watchdog = zero;
     r
+}
+
+// The state after a register reset, if one is asked for.
+fn reset_if(asked: bool, s: State) -> State
+    ensures { λ r. ⌜ r ≡ pick asked (resetOf s) s ⌝ }
+{
+    if asked { resetting::reset(s) } else { s }
+}
+
+// The state with the watchdog served, if that is asked for.
+fn serviced_if(asked: bool, s: State) -> State
+    ensures { λ r. ⌜ r ≡ pick asked (servicedOf s) s ⌝ }
+{
+    if asked { serviced(s) } else { s }
+}
+
+// What the reset and service bits of a run do, after its other bytes.
+fn acted(s: State, address: u32, raw: RawBytes) -> State
+    ensures { λ r. ⌜ r ≡ actedOf s address (rawOf raw) ⌝ }
+{
+    let resets = run::resets(address, raw);
+    let serves = run::serves(address, raw);
+    let reset = reset_if(resets, s);
+    serviced_if(serves, reset)
+}
+
+// A run of bytes from an address on.
+pub fn write_run(s: State, address: u32, raw: RawBytes) -> Change
+    ensures { λ r. ⌜ RunPromise s address raw r ⌝ }
+{
+    match run::run(s, address, raw) {
+        WriteAnswer::Stored(written) => Change::Made(acted(written, address, raw), Way::Plain),
+        WriteAnswer::Refused(r) => Change::Refused(r),
+    }
+}
+
+// A read of a flag register.
+pub fn read_flags(s: State, address: u32) -> Change
+    ensures { λ r. ⌜ ReadFlagsPromise s address r ⌝ }
+{
+    let profile = s.profile;
+    if !flags::flag_register(profile, address) {
+        return Change::Refused(Refusal::UnknownAddress);
+    }
+    Change::Made(s, Way::Reads(address))
 }

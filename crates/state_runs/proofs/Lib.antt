@@ -1,0 +1,7 @@
+-- The crate's laws.
+mod Masks
+mod Turns
+pub mod Settings
+pub mod Steps
+pub mod Keeps
+pub mod Contracts

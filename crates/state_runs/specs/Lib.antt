@@ -1,0 +1,5 @@
+-- The definitions of the crate `state_runs`.
+pub mod Bytes
+pub mod Registers
+pub mod Runs
+pub mod Contracts
