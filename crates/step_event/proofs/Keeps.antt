@@ -1,5 +1,5 @@
 -- What every step comes to: a refusal that leaves the model as it was, or the settling of a state whose parts hold what they may.
-use Prim.Native.Nat.{ℕ, _≤_}
+use Prim.Native.Nat.{ℕ, _*_, _/_, _%_, _≤_}
 use mathlib.Core.Path.{_≡_, refl}
 use mathlib.Core.Bool.{Bool, true, false, not, _&&_}
 use mathlib.Core.Logic.{_≢_, _⊎_, inl, inr}
@@ -10,7 +10,7 @@ use Rattle.base.specs.Pick.{pick}
 use Rattle.base.specs.Stamps.{elapsedOf}
 use Rattle.base.specs.Refusals.{refusalNumber}
 use Rattle.base.specs.declared.refusal.Refusal.{Refusal}
-use Rattle.base.specs.declared.refusal.Refusal.the-variants.{OutOfRange, NotPowered, StampAhead, UnknownSetting, BadValue, UnknownAddress, BadFrequency}
+use Rattle.base.specs.declared.refusal.Refusal.the-variants.{OutOfRange, NotPowered, StampAhead, UnknownSetting, BadValue, UnknownAddress, BadFrequency, HalfRegister}
 use Rattle.base.specs.Told.{Told, accepted, refused}
 use Rattle.base.proofs.Tests.{and-iff}
 use Rattle.state_parts.specs.Edges.{allFlags}
@@ -21,6 +21,11 @@ use Rattle.state_parts.specs.declared.state.State.{State}
 use Rattle.state_parts.specs.declared.state.Model.{Model}
 use Rattle.state_parts.specs.declared.state.Model.the-variants.{Off, On}
 use Rattle.log_event.specs.declared.Event.{Event}
+use Rattle.log_raw.specs.Raw.{Raw, byteOf, hasSpelling}
+use Rattle.log_raw.specs.Struct.{rawOf}
+use Rattle.report_registers.specs.Reads.{flagRegister}
+use Rattle.state_runs.specs.Runs.{outside, halves, badFrequency, badRun, writtenRun, runOf, resets, serves}
+use Rattle.state_runs.proofs.Keeps.{run-passes}
 use Rattle.state_table.specs.Rows.{frequencyOk, fsw, digitOf}
 use Rattle.state_start.specs.Values.{startState}
 use Rattle.state_settings.specs.Numbered.{storeOf}
@@ -37,7 +42,7 @@ use Rattle.settle_all.specs.Settle.{settleOf}
 use Rattle.step_turns.specs.Turns.{turnOf}
 use Rattle.step_turns.specs.Promises.{LaterFits, TurnFits}
 use Rattle.step_turns.specs.declared.later.Later.{Later}
-use Rattle.step_turns.specs.declared.later.Later.the-variants.{Set, Write, TakeFlags, Observe, Service, Reset}
+use Rattle.step_turns.specs.declared.later.Later.the-variants.{Set, Write, TakeFlags, Observe, Service, Reset, WriteRun, ReadFlags}
 use Rattle.step_turns.specs.declared.turn.Turn.{Turn}
 use Rattle.step_turns.specs.declared.turn.Turn.the-variants.{Opens, Follows, OpensOutside, FollowsOutside}
 use Rattle.step_turns.proofs.Fitting.{every-turn-fits}
@@ -45,9 +50,9 @@ use Rattle.step_event.specs.Clock.{observedOf}
 use Rattle.step_kinds.specs.Answers.{Outcome, refusedWith}
 use Rattle.step_kinds.specs.Changes.{Changed, changed}
 use Rattle.step_kinds.specs.Finish.{observing, keptBy, finishOf}
-use Rattle.step_kinds.specs.Plain.{afterWrite, openedAs, setOf, writtenOf, servicedOf}
+use Rattle.step_kinds.specs.Plain.{afterWrite, openedAs, setOf, writtenOf, servicedOf, actedOf, afterRun, runFrom, readFlagsOf}
 use Rattle.step_kinds.specs.declared.change.Way.{Way}
-use Rattle.step_kinds.specs.declared.change.Way.the-variants.{Plain, Observes, Takes, Powers}
+use Rattle.step_kinds.specs.declared.change.Way.the-variants.{Plain, Observes, Takes, Reads, Powers}
 use Rattle.step_event.specs.Steps.{observeOf, followedOf, movedOf, firstOf, changeOf, modelOk, seenOn, closedBy, turnedBy, stepOf}
 use Rattle.step_event.specs.Theorems.{Untouched, RefusedLeaves, AcceptedPasses, StepKeeps}
 use Rattle.step_event.proofs.Numbered.{some-number}
@@ -124,14 +129,52 @@ module _ (s : State) (e : stateOk s ≡ true) where
         flags = k .flags;
       }
 
+  reads : (address : ℕ) → Writes (readFlagsOf s address)
+  unfolding readFlagsOf
+  reads address = tests UnknownAddress (not (flagRegister (s .profile) address)) _ (λ _. changes s (Reads address) (ready s e))
+
+-- what a run's reset and service bits leave
+acts : (s : State) → stateOk s ≡ true → (address : ℕ) (raw : Raw) → Ready (actedOf s address raw)
+unfolding actedOf
+acts s e address raw = by (resets address raw) (serves address raw)
+  where
+    serviced : (t : State) → stateOk t ≡ true → (serves : Bool) → Ready (pick serves (servicedOf t) t)
+    serviced t ok true = services t ok
+    serviced t ok false = ready t ok
+
+    by : (resets serves : Bool) → let reset = pick resets (resetOf s) s in Ready (pick serves (servicedOf reset) reset)
+    by true serves = serviced (resetOf s) (reset-passes s e) serves
+    by false serves = serviced s e serves
+
+module _ (s : State) (e : stateOk s ≡ true) where
+  runs : (address : ℕ) (raw : Raw) → Writes (runFrom s address raw)
+  unfolding runFrom runOf
+  runs address raw =
+      by (hasSpelling raw) (outside address (raw .count)) (halves (s .profile) address (raw .count)) (badFrequency (byteOf raw) address (raw .count) (s .profile))
+      (badRun (byteOf raw) address (raw .count) (s .profile)) refl refl refl refl refl
+    where
+      by : (a b c d f : Bool) → hasSpelling raw ≡ a → outside address (raw .count) ≡ b → halves (s .profile) address (raw .count) ≡ c
+          → badFrequency (byteOf raw) address (raw .count) (s .profile) ≡ d → badRun (byteOf raw) address (raw .count) (s .profile) ≡ f
+          → Writes (afterRun (pick (not a) (refused 5) (pick b (refused 10) (pick c (refused 15) (pick d (refused 11) (pick f (refused 9) (accepted (writtenRun s address raw))))))) address raw)
+      by false b c d f ea eb ec ed ef = refuses OutOfRange
+      by true true c d f ea eb ec ed ef = refuses UnknownAddress
+      by true false true d f ea eb ec ed ef = refuses HalfRegister
+      by true false false true f ea eb ec ed ef = refuses BadFrequency
+      by true false false false true ea eb ec ed ef = refuses BadValue
+      by true false false false false ea eb ec ed ef =
+          let after = run-passes s e address raw (record { spelled = ea; inside = eb; whole = ec; legal = ed; held = ef; after = refl }) in
+          changes (actedOf (writtenRun s address raw) address raw) Plain (acts (writtenRun s address raw) after address raw)
+
   follows : (later : Later) → LaterFits later → Writes (followedOf s later)
   unfolding followedOf
-  follows (Set number value) fits = sets number value
-  follows (Write address byte) fits = writes address byte
+  follows (Set number value) fits = sets s e number value
+  follows (Write address byte) fits = writes s e address byte
   follows TakeFlags fits = changes s Takes (ready s e)
-  follows (Observe x) fits = observes x fits
-  follows Service fits = changes (servicedOf s) Plain services
+  follows (Observe x) fits = observes s e x fits
+  follows Service fits = changes (servicedOf s) Plain (services s e)
   follows Reset fits = changes (resetOf s) Plain (ready (resetOf s) (reset-passes s e))
+  follows (WriteRun address raw) fits = runs address (rawOf raw)
+  follows (ReadFlags address) fits = reads s e address
 
   moves : (t : Turn) → TurnFits t → Writes (movedOf s t)
   unfolding movedOf
@@ -199,6 +242,11 @@ kept-fit : (way : Way) (all : ℕ) → all ≤ allFlags → keptBy way all ≤ a
 kept-fit Plain all h = h
 kept-fit Observes all h = h
 kept-fit Takes all h = omega arith
+kept-fit (Reads address) all h = by (eqb address 0x20)
+  where
+    by : (t : Bool) → pick t (all / 256 * 256) (all % 256) ≤ allFlags
+    by true = omega arith
+    by false = omega arith
 kept-fit Powers all h = omega arith
 
 -- where the event is accepted the model before it doesn't matter

@@ -5,6 +5,7 @@ use Rattle.base.specs.Pick.{pick}
 use Rattle.base.specs.Stamps.{elapsedOf}
 use Rattle.base.specs.Told.{Told, accepted, refused}
 use Rattle.log_event.specs.declared.Event.{Event}
+use Rattle.log_raw.specs.Struct.{rawOf}
 use Rattle.state_parts.specs.declared.sample.Sample.{Sample}
 use Rattle.state_parts.specs.declared.state.State.{State}
 use Rattle.state_parts.specs.declared.state.Model.{Model}
@@ -13,7 +14,7 @@ use Rattle.state_valid.specs.Holds.{stateOk}
 use Rattle.state_registers.specs.Resets.{resetOf}
 use Rattle.step_turns.specs.Turns.{turnOf}
 use Rattle.step_turns.specs.declared.later.Later.{Later}
-use Rattle.step_turns.specs.declared.later.Later.the-variants.{Set, Write, TakeFlags, Observe, Service, Reset}
+use Rattle.step_turns.specs.declared.later.Later.the-variants.{Set, Write, TakeFlags, Observe, Service, Reset, WriteRun, ReadFlags}
 use Rattle.step_turns.specs.declared.turn.Turn.{Turn}
 use Rattle.step_turns.specs.declared.turn.Turn.the-variants.{Opens, Follows, OpensOutside, FollowsOutside}
 use Rattle.step_flags.specs.Edges.{seenOf}
@@ -21,7 +22,7 @@ use Rattle.step_flags.specs.declared.between.Seen.{Seen}
 use Rattle.step_kinds.specs.Answers.{Outcome, refusedWith}
 use Rattle.step_kinds.specs.Changes.{Changed, changed}
 use Rattle.step_kinds.specs.Finish.{finishOf}
-use Rattle.step_kinds.specs.Plain.{openedAs, setOf, writtenOf, servicedOf}
+use Rattle.step_kinds.specs.Plain.{openedAs, setOf, writtenOf, servicedOf, runFrom, readFlagsOf}
 use Rattle.step_kinds.specs.declared.change.Way.{Way}
 use Rattle.step_kinds.specs.declared.change.Way.the-variants.{Plain, Observes, Takes}
 use Rattle.step_event.specs.Clock.{observedOf}
@@ -38,6 +39,8 @@ followedOf s TakeFlags = changed s Takes
 followedOf s (Observe x) = observeOf s x
 followedOf s Service = changed (servicedOf s) Plain
 followedOf s Reset = changed (resetOf s) Plain
+followedOf s (WriteRun address raw) = runFrom s address (rawOf raw)
+followedOf s (ReadFlags address) = readFlagsOf s address
 
 -- an event on a model that is on. 5: "a number outside kind 1, 3 or 5's ranges"; kind 3's is the registers' to say
 unfoldable pub movedOf : State → Turn → Told Changed

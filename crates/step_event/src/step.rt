@@ -50,6 +50,8 @@ fn follow(s: State, e: Later) -> Change
         Later::Observe(x) => observe(s, x),
         Later::Service => Change::Made(plain::serviced(s), Way::Plain),
         Later::Reset => Change::Made(resetting::reset(s), Way::Plain),
+        Later::WriteRun(address, raw) => plain::write_run(s, address, raw),
+        Later::ReadFlags(address) => plain::read_flags(s, address),
     }
 }
 

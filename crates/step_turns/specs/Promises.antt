@@ -11,7 +11,7 @@ use Rattle.state_valid.specs.Holds.{profileOk, sampleOk}
 use Rattle.step_turns.specs.Turns.{turnOf}
 use Rattle.step_turns.specs.Begins.{Begins}
 use Rattle.step_turns.specs.declared.later.Later.{Later}
-use Rattle.step_turns.specs.declared.later.Later.the-variants.{Set, Write, TakeFlags, Observe, Service, Reset}
+use Rattle.step_turns.specs.declared.later.Later.the-variants.{Set, Write, TakeFlags, Observe, Service, Reset, WriteRun, ReadFlags}
 use Rattle.step_turns.specs.declared.turn.Turn.{Turn}
 use Rattle.step_turns.specs.declared.turn.Turn.the-variants.{Opens, Follows, OpensOutside, FollowsOutside}
 
@@ -22,6 +22,8 @@ laterOk TakeFlags = true
 laterOk (Observe x) = sampleOk x
 laterOk Service = true
 laterOk Reset = true
+laterOk (WriteRun address raw) = true
+laterOk (ReadFlags address) = true
 
 abbrev pub turnOk : Turn → Bool
 turnOk (Opens p) = profileOk p

@@ -1,4 +1,5 @@
 // What may follow a power-on.
+use log_raw::RawBytes;
 use state_parts::sample::Sample;
 
 pub enum Later {
@@ -10,4 +11,8 @@ pub enum Later {
     Observe(Sample),
     Service,
     Reset,
+    // the address that a run of bytes starts at, and the bytes
+    WriteRun(u32, RawBytes),
+    // a flag register's address
+    ReadFlags(u32),
 }

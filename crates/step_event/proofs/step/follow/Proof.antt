@@ -28,5 +28,13 @@ returns-6 : tie.Need-returns-6
 unfolding followedOf
 returns-6 c = simp (c .reset .ensures, c .before .enum-told3 .given .1)
 
+returns-7 : tie.Need-returns-7
+unfolding followedOf
+returns-7 c = simp (c .write-run .ensures, c .before .before .e4 .given .1)
+
+returns-8 : tie.Need-returns-8
+unfolding followedOf
+returns-8 c = simp (c .read-flags .ensures, c .before .before .e5 .given .1)
+
 pub follow-spec : {M : Type 1} → statement M
-follow-spec = tie.close (tie.spec (λ c. search needs) (λ c κs. search needs) (λ c. search needs) (λ c κs. search needs) (λ c. search needs) (λ c. search needs) (λ c κs. search needs) (λ c. search needs) (λ c κs. search needs) (λ c. search needs) (λ c κs. search needs) returns returns-2 returns-3 returns-4 returns-5 returns-6)
+follow-spec = tie.close (tie.spec (λ c. search needs) (λ c κs. search needs) (λ c. search needs) (λ c κs. search needs) (λ c. search needs) (λ c. search needs) (λ c κs. search needs) (λ c. search needs) (λ c κs. search needs) (λ c. search needs) (λ c κs. search needs) (λ c. search needs) (λ c κs. search needs) (λ c. search needs) (λ c κs. search needs) returns returns-2 returns-3 returns-4 returns-5 returns-6 returns-7 returns-8)
