@@ -21,9 +21,9 @@ use Rattle.state_table.specs.Rows.{mapSize, fsw, cellPin, digitOf, frequencyOk}
 use Rattle.state_valid.specs.Holds.{registersOk, stateOk}
 use Rattle.state_valid.proofs.Bounds.{ProfileBounds, profile-bounds}
 use Rattle.state_valid.proofs.Wholes.{Holding, apart, whole}
-use Rattle.state_runs.specs.Bytes.{valueIn, upTo, within, codeIn}
+use Rattle.state_runs.specs.Bytes.{valueIn, stepwise, isWritten, writtenCode}
 use Rattle.state_runs.specs.Registers.{settingsTaken, badRegister, registerTaken}
-use Rattle.state_runs.specs.Runs.{outside, halves, badFrequency, badRun, keptRun, keptOf, writtenRun, runOf}
+use Rattle.state_runs.specs.Runs.{outside, halves, illegalFrequency, badRun, keptRun, keptOf, writtenRun, writeRunOf}
 use Rattle.state_runs.specs.declared.registers.Kept.{Kept}
 use Rattle.state_runs.proofs.Settings.{settings-keep}
 use Rattle.state_runs.proofs.Steps.{none-meets, all-keep}
@@ -57,18 +57,18 @@ pub record Judged (s : State) (first : ℕ) (raw : Raw) (t : State) : Type 0 whe
   pub spelled : hasSpelling raw ≡ true
   pub inside : outside first (raw .count) ≡ false
   pub whole : halves (s .profile) first (raw .count) ≡ false
-  pub legal : badFrequency (byteOf raw) first (raw .count) (s .profile) ≡ false
+  pub legal : illegalFrequency (byteOf raw) first (raw .count) (s .profile) ≡ false
   pub held : badRun (byteOf raw) first (raw .count) (s .profile) ≡ false
   pub after : t ≡ writtenRun s first raw
 
-pub judged : (s : State) (first : ℕ) (raw : Raw) (t : State) → runOf s first raw ≡ accepted t → Judged s first raw t
-unfolding runOf
+pub judged : (s : State) (first : ℕ) (raw : Raw) (t : State) → writeRunOf s first raw ≡ accepted t → Judged s first raw t
+unfolding writeRunOf
 judged s first raw t e =
-    go (hasSpelling raw) (outside first (raw .count)) (halves (s .profile) first (raw .count)) (badFrequency (byteOf raw) first (raw .count) (s .profile))
+    go (hasSpelling raw) (outside first (raw .count)) (halves (s .profile) first (raw .count)) (illegalFrequency (byteOf raw) first (raw .count) (s .profile))
     (badRun (byteOf raw) first (raw .count) (s .profile)) refl refl refl refl refl e
   where
     go : (a b c d f : Bool) → hasSpelling raw ≡ a → outside first (raw .count) ≡ b → halves (s .profile) first (raw .count) ≡ c
-        → badFrequency (byteOf raw) first (raw .count) (s .profile) ≡ d → badRun (byteOf raw) first (raw .count) (s .profile) ≡ f
+        → illegalFrequency (byteOf raw) first (raw .count) (s .profile) ≡ d → badRun (byteOf raw) first (raw .count) (s .profile) ≡ f
         → pick (not a) (refused 5) (pick b (refused 10) (pick c (refused 15) (pick d (refused 11) (pick f (refused 9) (accepted (writtenRun s first raw)))))) ≡ accepted t
         → Judged s first raw t
     go true false false false false ea eb ec ed ef e = record { spelled = ea; inside = eb; whole = ec; legal = ed; held = ef; after = cc }
@@ -88,10 +88,10 @@ module _ (s : State) (ok : stateOk s ≡ true) (first : ℕ) (raw : Raw) (j : Ju
   -- FSW's code, where FSW is written
   frequency : (i : ℕ) → i < raw .count → first + i ≡ 0x16 → frequencyOk (s .profile) (digitOf fsw (valueIn (byteOf raw) i)) ≡ true
   frequency i h e =
-      let there : within first (raw .count) fsw ≡ true = rw (le-leb first 0x16 (omega arith), lt-ltb 0x16 (first + raw .count) (omega arith)) refl in
+      let there : isWritten first (raw .count) fsw ≡ true = rw (le-leb first 0x16 (omega arith), lt-ltb 0x16 (first + raw .count) (omega arith)) refl in
       let same : 0x16 - first ≡ i = omega arith in
       subst (λ (n : ℕ). frequencyOk (s .profile) (digitOf fsw (valueIn (byteOf raw) n)) ≡ true) same
-      (both-not (within first (raw .count) fsw) (frequencyOk (s .profile) (codeIn (byteOf raw) first fsw)) there (j .legal))
+      (both-not (isWritten first (raw .count) fsw) (frequencyOk (s .profile) (writtenCode (byteOf raw) first fsw)) there (j .legal))
 
   kept-passes : KeptOk (s .profile) (keptRun (byteOf raw) first (raw .count) (s .profile) (s .registers) (keptOf s))
   unfolding keptRun badRun

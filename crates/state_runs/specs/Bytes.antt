@@ -10,14 +10,14 @@ abbrev pub valueIn : (ℕ → ℕ) → ℕ → ℕ
 valueIn byte i = byte i + 256 * byte (i + 1)
 
 -- so many steps, with the numbers from 0 up: "at ascending addresses"
-abbrev pub upTo : {A : Type 0} → (A → ℕ → A) → ℕ → A → A
-upTo step zero a = a
-upTo step (suc k) a = step (upTo step k a) k
+abbrev pub stepwise : {A : Type 0} → (A → ℕ → A) → ℕ → A → A
+stepwise step zero a = a
+stepwise step (suc k) a = step (stepwise step k a) k
 
 -- a field's register is written by a run from an address on, of so many bytes
-abbrev pub within : ℕ → ℕ → Field → Bool
-within first count f = leb first (f .address) && ltb (f .address) (first + count)
+abbrev pub isWritten : ℕ → ℕ → Field → Bool
+isWritten first count f = leb first (f .address) && ltb (f .address) (first + count)
 
 -- and its code there
-abbrev pub codeIn : (ℕ → ℕ) → ℕ → Field → ℕ
-codeIn byte first f = digitOf f (valueIn byte (f .address - first))
+abbrev pub writtenCode : (ℕ → ℕ) → ℕ → Field → ℕ
+writtenCode byte first f = digitOf f (valueIn byte (f .address - first))

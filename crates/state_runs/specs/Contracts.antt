@@ -7,10 +7,10 @@ use Rattle.log_raw.specs.declared.RawBytes.{RawBytes}
 use Rattle.state_parts.specs.declared.state.State.{State}
 use Rattle.state_registers.specs.Writes.{writeTold}
 use Rattle.state_registers.specs.declared.writing.WriteAnswer.{WriteAnswer}
-use Rattle.state_runs.specs.Runs.{runOf}
+use Rattle.state_runs.specs.Runs.{writeRunOf}
 
 abbrev pub RunPromise : State → ℕ → RawBytes → WriteAnswer → Type 0
-RunPromise s first raw r = writeTold r ≡ runOf s first (rawOf raw)
+RunPromise s first raw r = writeTold r ≡ writeRunOf s first (rawOf raw)
 
 -- "equal inputs allow one outcome"
 pub record OneOutcome : Type 0 where

@@ -12,7 +12,7 @@ use Rattle.state_parts.specs.declared.registers.Registers.{Registers}
 use Rattle.state_parts.specs.declared.state.State.{State}
 use Rattle.state_table.specs.Rows.{Field, mapSize, fsw, regRst, wdRst, frequencyOk}
 use Rattle.state_table.specs.Packed.{upperHalf}
-use Rattle.state_runs.specs.Bytes.{valueIn, upTo, within, codeIn}
+use Rattle.state_runs.specs.Bytes.{valueIn, stepwise, isWritten, writtenCode}
 use Rattle.state_runs.specs.Registers.{badRegister, registerTaken}
 use Rattle.state_runs.specs.declared.registers.Kept.{Kept}
 
@@ -29,20 +29,20 @@ halves p first count = inMiddle p first || inMiddle p (first + count)
 
 module _ (byte : ℕ → ℕ) (first count : ℕ) where
   -- "FSW .. written 0 or 7" (11)
-  abbrev pub badFrequency : Profile → Bool
-  badFrequency p = within first count fsw && not (frequencyOk p (codeIn byte first fsw))
+  abbrev pub illegalFrequency : Profile → Bool
+  illegalFrequency p = isWritten first count fsw && not (frequencyOk p (writtenCode byte first fsw))
 
   -- "a field value that its setting can't hold is 9"
   unfoldable pub badRun : Profile → Bool
-  badRun p = upTo (λ (bad : Bool) (i : ℕ). bad || badRegister p (first + i) (valueIn byte i)) count false
+  badRun p = stepwise (λ (bad : Bool) (i : ℕ). bad || badRegister p (first + i) (valueIn byte i)) count false
 
   -- the registers, one after the other
   unfoldable pub keptRun : Profile → Registers → Kept → Kept
-  keptRun p before k = upTo (λ (u : Kept) (i : ℕ). registerTaken p before (first + i) (valueIn byte i) u) count k
+  keptRun p before k = stepwise (λ (u : Kept) (i : ℕ). registerTaken p before (first + i) (valueIn byte i) u) count k
 
   -- "Reset and service bits act": where they are written 1
   abbrev pub acts : Field → Bool
-  acts f = within first count f && eqb (codeIn byte first f) 1
+  acts f = isWritten first count f && eqb (writtenCode byte first f) 1
 
 -- what runs change of a state
 abbrev pub keptOf : State → Kept
@@ -56,12 +56,12 @@ unfoldable pub writtenRun : State → ℕ → Raw → State
 writtenRun s first raw = withKept s (keptRun (byteOf raw) first (raw .count) (s .profile) (s .registers) (keptOf s))
 
 -- "has no spelling: the writer gives 5 .., and so does the model, after 6"; "10; 15, .., after 10, then 11; .. 9, last"
-unfoldable pub runOf : State → ℕ → Raw → Told State
-runOf s first raw =
+unfoldable pub writeRunOf : State → ℕ → Raw → Told State
+writeRunOf s first raw =
     pick (not (hasSpelling raw)) (refused 5)
     (pick (outside first (raw .count)) (refused 10)
     (pick (halves (s .profile) first (raw .count)) (refused 15)
-    (pick (badFrequency (byteOf raw) first (raw .count) (s .profile)) (refused 11)
+    (pick (illegalFrequency (byteOf raw) first (raw .count) (s .profile)) (refused 11)
     (pick (badRun (byteOf raw) first (raw .count) (s .profile)) (refused 9)
     (accepted (writtenRun s first raw))))))
 

@@ -6,7 +6,7 @@ ghost use Prim.Native.Nat.{_+_, _-_, _≤_};
 ghost use Rattle.log_raw.specs.Raw.{byteOf};
 ghost use Rattle.log_raw.specs.Struct.{rawOf};
 ghost use Rattle.state_runs.specs.Bytes.{valueIn};
-ghost use Rattle.state_runs.specs.Runs.{inMiddle, badFrequency, badRun, keptRun, writtenRun, resets, serves};
+ghost use Rattle.state_runs.specs.Runs.{inMiddle, illegalFrequency, badRun, keptRun, writtenRun, resets, serves};
 ghost use Rattle.state_runs.specs.Contracts.{RunPromise};
 use crate::bytes::value_in;
 use crate::registers::Kept;
@@ -54,7 +54,7 @@ fn value_at(raw: RawBytes, first: u32, address: u32) -> u32
 
 // Whether FSW is written and has no frequency.
 fn bad_frequency(p: Profile, first: u32, raw: RawBytes) -> bool
-    ensures { λ r. ⌜ r ≡ badFrequency (byteOf (rawOf raw)) first (raw .length) p ⌝ }
+    ensures { λ r. ⌜ r ≡ illegalFrequency (byteOf (rawOf raw)) first (raw .length) p ⌝ }
 {
     let there = writes(first, raw.length, 0x16);
     let code = value_at(raw, first, 0x16) / 1 % 8;

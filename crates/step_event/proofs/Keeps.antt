@@ -24,7 +24,7 @@ use Rattle.log_event.specs.declared.Event.{Event}
 use Rattle.log_raw.specs.Raw.{Raw, byteOf, hasSpelling}
 use Rattle.log_raw.specs.Struct.{rawOf}
 use Rattle.report_registers.specs.Reads.{flagRegister}
-use Rattle.state_runs.specs.Runs.{outside, halves, badFrequency, badRun, writtenRun, runOf, resets, serves}
+use Rattle.state_runs.specs.Runs.{outside, halves, illegalFrequency, badRun, writtenRun, writeRunOf, resets, serves}
 use Rattle.state_runs.proofs.Keeps.{run-passes}
 use Rattle.state_table.specs.Rows.{frequencyOk, fsw, digitOf}
 use Rattle.state_start.specs.Values.{startState}
@@ -148,13 +148,13 @@ acts s e address raw = by (resets address raw) (serves address raw)
 
 module _ (s : State) (e : stateOk s ≡ true) where
   runs : (address : ℕ) (raw : Raw) → Writes (runFrom s address raw)
-  unfolding runFrom runOf
+  unfolding runFrom writeRunOf
   runs address raw =
-      by (hasSpelling raw) (outside address (raw .count)) (halves (s .profile) address (raw .count)) (badFrequency (byteOf raw) address (raw .count) (s .profile))
+      by (hasSpelling raw) (outside address (raw .count)) (halves (s .profile) address (raw .count)) (illegalFrequency (byteOf raw) address (raw .count) (s .profile))
       (badRun (byteOf raw) address (raw .count) (s .profile)) refl refl refl refl refl
     where
       by : (a b c d f : Bool) → hasSpelling raw ≡ a → outside address (raw .count) ≡ b → halves (s .profile) address (raw .count) ≡ c
-          → badFrequency (byteOf raw) address (raw .count) (s .profile) ≡ d → badRun (byteOf raw) address (raw .count) (s .profile) ≡ f
+          → illegalFrequency (byteOf raw) address (raw .count) (s .profile) ≡ d → badRun (byteOf raw) address (raw .count) (s .profile) ≡ f
           → Writes (afterRun (pick (not a) (refused 5) (pick b (refused 10) (pick c (refused 15) (pick d (refused 11) (pick f (refused 9) (accepted (writtenRun s address raw))))))) address raw)
       by false b c d f ea eb ec ed ef = refuses OutOfRange
       by true true c d f ea eb ec ed ef = refuses UnknownAddress

@@ -10,7 +10,7 @@ use Rattle.state_parts.specs.declared.state.State.{State}
 use Rattle.state_registers.specs.Writes.{writeTold, writeOf}
 use Rattle.state_registers.specs.declared.writing.WriteAnswer.{WriteAnswer}
 use Rattle.state_registers.specs.declared.writing.WriteAnswer.the-variants.{Stored, Refused}
-use Rattle.state_runs.specs.Runs.{runOf}
+use Rattle.state_runs.specs.Runs.{writeRunOf}
 use Rattle.step_kinds.specs.Changes.{changed}
 use Rattle.step_kinds.specs.Plain.{writtenOf, actedOf, runFrom}
 use Rattle.step_kinds.specs.declared.change.Way.the-variants.{Plain}
@@ -27,12 +27,12 @@ unfolding writtenOf
 not-wrote s address byte answer r ea told = rw (← told, ea)
 
 -- and so of a run
-pub ran : (s : State) (address : ℕ) (raw : RawBytes) (answer : WriteAnswer) (written after : State) → answer ≡ Stored written → writeTold answer ≡ runOf s address (rawOf raw)
+pub ran : (s : State) (address : ℕ) (raw : RawBytes) (answer : WriteAnswer) (written after : State) → answer ≡ Stored written → writeTold answer ≡ writeRunOf s address (rawOf raw)
     → after ≡ actedOf written address (rawOf raw) → changed after Plain ≡ runFrom s address (rawOf raw)
 unfolding runFrom
 ran s address raw answer written after ea told e = rw (← told, ea, e)
 
-pub not-ran : (s : State) (address : ℕ) (raw : RawBytes) (answer : WriteAnswer) (r : Refusal) → answer ≡ Refused r → writeTold answer ≡ runOf s address (rawOf raw)
+pub not-ran : (s : State) (address : ℕ) (raw : RawBytes) (answer : WriteAnswer) (r : Refusal) → answer ≡ Refused r → writeTold answer ≡ writeRunOf s address (rawOf raw)
     → refused (refusalNumber r) ≡ runFrom s address (rawOf raw)
 unfolding runFrom
 not-ran s address raw answer r ea told = rw (← told, ea)

@@ -13,7 +13,7 @@ use Rattle.log_raw.specs.Raw.{Raw}
 use Rattle.report_registers.specs.Reads.{flagRegister}
 use Rattle.state_registers.specs.Resets.{resetOf}
 use Rattle.state_registers.specs.Writes.{writeOf}
-use Rattle.state_runs.specs.Runs.{runOf, resets, serves}
+use Rattle.state_runs.specs.Runs.{writeRunOf, resets, serves}
 use Rattle.step_kinds.specs.Changes.{Changed, changed}
 use Rattle.step_kinds.specs.declared.change.Way.{Way}
 use Rattle.step_kinds.specs.declared.change.Way.the-variants.{Plain, Reads, Powers}
@@ -53,7 +53,7 @@ afterRun (accepted written) address raw = changed (actedOf written address raw) 
 afterRun (refused number) address raw = refused number
 
 unfoldable pub runFrom : State → ℕ → Raw → Told Changed
-runFrom s address raw = afterRun (runOf s address raw) address raw
+runFrom s address raw = afterRun (writeRunOf s address raw) address raw
 
 -- "kind 14 on no flag register, is 10"
 unfoldable pub readFlagsOf : State → ℕ → Told Changed

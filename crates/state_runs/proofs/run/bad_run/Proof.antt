@@ -10,7 +10,7 @@ use Rattle.log_raw.specs.Struct.{rawOf}
 use Rattle.log_raw.specs.declared.RawBytes.{RawBytes}
 use Rattle.state_parts.specs.declared.profile.Profile.{Profile}
 use Rattle.state_parts.specs.declared.registers.Registers.{Registers}
-use Rattle.state_runs.specs.Bytes.{valueIn, upTo}
+use Rattle.state_runs.specs.Bytes.{valueIn, stepwise}
 use Rattle.state_runs.specs.Registers.{badRegister, registerTaken}
 use Rattle.state_runs.specs.Runs.{badRun}
 use Rattle.state_runs.specs.declared.registers.Kept.{Kept}
@@ -22,7 +22,7 @@ abbrev worse : Profile → ℕ → RawBytes → Bool → ℕ → Bool
 worse p first raw bad i = bad || badRegister p (first + i) (valueIn (byteOf (rawOf raw)) i)
 
 abbrev Inv-loop : tie.InvT-loop
-Inv-loop p first raw bad₀ i₀ bad i = (i ≤ raw .length) × (first + raw .length ≤ 39) × (bad ≡ upTo (worse p first raw) i false)
+Inv-loop p first raw bad₀ i₀ bad i = (i ≤ raw .length) × (first + raw .length ≤ 39) × (bad ≡ stepwise (worse p first raw) i false)
 
 abbrev μ-loop : tie.MeasureT-loop
 μ-loop p first raw bad₀ i₀ bad i = raw .length - i
@@ -36,7 +36,7 @@ loop-again c =
       l .inv .1,
       ap (λ (t : Bool). l .bad || t) (c .bad-register .ensures ∙ ap (badRegister (a .p) (a .first + l .i)) value)
           ∙ ap (λ (t : Bool). worse (a .p) (a .first) (a .raw) t (l .i)) (l .inv .2)
-          ∙ ap (λ (n : ℕ). upTo (worse (a .p) (a .first) (a .raw)) n false) (sym (add-one (l .i))),
+          ∙ ap (λ (n : ℕ). stepwise (worse (a .p) (a .first) (a .raw)) n false) (sym (add-one (l .i))),
     )
 
 returns : tie.Need-returns Inv-loop μ-loop
@@ -45,7 +45,7 @@ returns c =
     let a = c .before .before .before .args in
     let l = c .before .before .loop in
     let all : l .i ≡ a .raw .length = omega arith in
-    l .inv .2 ∙ ap (λ (n : ℕ). upTo (worse (a .p) (a .first) (a .raw)) n false) all
+    l .inv .2 ∙ ap (λ (n : ℕ). stepwise (worse (a .p) (a .first) (a .raw)) n false) all
 
 pub bad-run-spec : {M : Type 1} → statement M
 bad-run-spec =

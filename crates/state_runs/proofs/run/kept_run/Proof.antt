@@ -10,7 +10,7 @@ use Rattle.log_raw.specs.Struct.{rawOf}
 use Rattle.log_raw.specs.declared.RawBytes.{RawBytes}
 use Rattle.state_parts.specs.declared.profile.Profile.{Profile}
 use Rattle.state_parts.specs.declared.registers.Registers.{Registers}
-use Rattle.state_runs.specs.Bytes.{valueIn, upTo}
+use Rattle.state_runs.specs.Bytes.{valueIn, stepwise}
 use Rattle.state_runs.specs.Registers.{badRegister, registerTaken}
 use Rattle.state_runs.specs.Runs.{keptRun}
 use Rattle.state_runs.specs.declared.registers.Kept.{Kept}
@@ -22,7 +22,7 @@ abbrev takes : Profile → Registers → ℕ → RawBytes → Kept → ℕ → K
 takes p before first raw u i = registerTaken p before (first + i) (valueIn (byteOf (rawOf raw)) i) u
 
 abbrev Inv-loop : tie.InvT-loop
-Inv-loop p before first raw u₀ i₀ u i = (i ≤ raw .length) × (first + raw .length ≤ 39) × (u ≡ upTo (takes p before first raw) i u₀)
+Inv-loop p before first raw u₀ i₀ u i = (i ≤ raw .length) × (first + raw .length ≤ 39) × (u ≡ stepwise (takes p before first raw) i u₀)
 
 abbrev μ-loop : tie.MeasureT-loop
 μ-loop p before first raw u₀ i₀ u i = raw .length - i
@@ -36,7 +36,7 @@ loop-again c =
       l .inv .1,
       c .register-taken .ensures ∙ ap (λ (v : ℕ). registerTaken (a .p) (a .before) (a .first + l .i) v (l .u)) value
           ∙ ap (λ (u : Kept). takes (a .p) (a .before) (a .first) (a .raw) u (l .i)) (l .inv .2)
-          ∙ ap (λ (n : ℕ). upTo (takes (a .p) (a .before) (a .first) (a .raw)) n (a .k)) (sym (add-one (l .i))),
+          ∙ ap (λ (n : ℕ). stepwise (takes (a .p) (a .before) (a .first) (a .raw)) n (a .k)) (sym (add-one (l .i))),
     )
 
 returns : tie.Need-returns Inv-loop μ-loop
@@ -45,7 +45,7 @@ returns c =
     let a = c .before .before .before .args in
     let l = c .before .before .loop in
     let all : l .i ≡ a .raw .length = omega arith in
-    l .inv .2 ∙ ap (λ (n : ℕ). upTo (takes (a .p) (a .before) (a .first) (a .raw)) n (a .k)) all
+    l .inv .2 ∙ ap (λ (n : ℕ). stepwise (takes (a .p) (a .before) (a .first) (a .raw)) n (a .k)) all
 
 pub kept-run-spec : {M : Type 1} → statement M
 kept-run-spec =

@@ -10,23 +10,23 @@ use Rattle.base.specs.Told.{Told, accepted, refused}
 use Rattle.log_raw.specs.Raw.{hasSpelling}
 use Rattle.log_raw.specs.Struct.{rawOf}
 use Rattle.state_parts.specs.declared.state.State.{State}
-use Rattle.state_runs.specs.Runs.{runOf}
+use Rattle.state_runs.specs.Runs.{writeRunOf}
 use Rattle.state_runs.proofs.run.run.Statement.{statement}
 use Rattle.state_runs.proofs.run.run.Tie as tie
 
 returns : tie.Need-returns
-unfolding runOf
+unfolding writeRunOf
 returns c = rw (sym (c .before .has-spelling .ensures)) (simp (c .if1 .taken))
 
 returns-2 : tie.Need-returns-2
-unfolding runOf
+unfolding writeRunOf
 returns-2 c =
     let a = c .before .before .before .before .args in
     let spelled = c .before .before .before .has-spelling in
     rw (sym (spelled .ensures)) (simp (c .before .before .if1 .left, lt-leb (a .first + a .raw .length) 39 (omega arith)))
 
 returns-3 : tie.Need-returns-3
-unfolding runOf
+unfolding writeRunOf
 returns-3 c =
     let d = c .before .before .before .before .before in
     let a = d .before .before .before .before .args in
@@ -35,7 +35,7 @@ returns-3 c =
     (simp (d .before .before .if1 .left, le-leb (a .first + a .raw .length) 39 (omega arith), taken))
 
 returns-4 : tie.Need-returns-4
-unfolding runOf
+unfolding writeRunOf
 returns-4 c =
     let e = c .before .before in
     let d = e .before .before .before .before .before in
@@ -45,7 +45,7 @@ returns-4 c =
     (simp (d .before .before .if1 .left, le-leb (a .first + a .raw .length) 39 (omega arith), left, c .if4 .taken))
 
 returns-5 : tie.Need-returns-5
-unfolding runOf
+unfolding writeRunOf
 returns-5 c =
     let g = c .before .before in
     let e = g .before .before in
@@ -56,7 +56,7 @@ returns-5 c =
     (simp (d .before .before .if1 .left, le-leb (a .first + a .raw .length) 39 (omega arith), left, g .if4 .left, c .if5 .taken))
 
 returns-6 : tie.Need-returns-6
-unfolding runOf
+unfolding writeRunOf
 returns-6 c =
     let h = c .before in
     let g = h .before .before in
