@@ -20,7 +20,11 @@ use Rattle.state_fields.proofs.Taken.{taken-gathered, cleared-gathered}
 use Rattle.state_registers.specs.Writes.{countTaken, writtenRegisters}
 use Rattle.state_registers.specs.Resets as registers
 use Rattle.step_event.specs.Clock.{clearedIf}
-use Rattle.step_turns.specs.declared.later.Later.the-variants.{Set, Write, TakeFlags, Observe, Service, Reset}
+use Rattle.log_raw.specs.Raw.{byteOf}
+use Rattle.log_raw.specs.Struct.{rawOf}
+use Rattle.state_runs.specs.Bytes.{isWritten, writtenCode}
+use Rattle.state_runs.specs.Runs.{resets}
+use Rattle.step_turns.specs.declared.later.Later.the-variants.{Set, Write, TakeFlags, Observe, Service, Reset, WriteRun, ReadFlags}
 use Rattle.laws_account.specs.History.{Run, powered, _▸_}
 use Rattle.laws_account.specs.Held.{profileOf, expired, isOverride, takes, cellsOf, fieldAt}
 use Rattle.laws_account.specs.States.{registersAt}
@@ -47,13 +51,26 @@ small f h (r ▸ Reset) = go (f .restored) (small f h r)
     go : (t : Bool) → fieldAt f r < 2 ^ f .width → pick t (f .reset) (fieldAt f r) < 2 ^ f .width
     go true k = h
     go false k = k
+small f h (r ▸ WriteRun first raw) = go (resets first (rawOf raw) && f .restored) (isWritten first (raw .length) f) (small f h r)
+  where
+    go : (t u : Bool) → fieldAt f r < 2 ^ f .width → pick t (f .reset) (pick u (writtenCode (byteOf (rawOf raw)) first f) (fieldAt f r)) < 2 ^ f .width
+    go true u k = h
+    go false true k = mod-lt _ (pow-pos (f .width))
+    go false false k = k
+small f h (r ▸ ReadFlags a) = small f h r
+
+-- and so does its reset
+pub reset-small : (i : ℕ) → i < 147 → nth i .reset < 2 ^ nth i .width
+unfolding packed.fieldAt
+reset-small i h =
+    let place : packed.fieldAt i ≡ nth i = ap (λ (n : ℕ). getD fields n noField) (mod-eq-of-lt h) in
+    subst (λ (g : Field). g .reset < 2 ^ g .width) place (resets-fit i)
 
 -- a stored field of the run's registers is the account's
 pub field-is : (r : Run) (i : ℕ) → i < 147 → (f : Field) → nth i ≡ f → stored f ≡ true → fieldOf f (registersAt r) ≡ fieldAt f r
-unfolding registersAt packed.fieldAt
+unfolding registersAt
 field-is r i h f same kept =
-    let place : packed.fieldAt i ≡ nth i = ap (λ (n : ℕ). getD fields n noField) (mod-eq-of-lt h) in
-    let fits : f .reset < 2 ^ f .width = subst (λ (g : Field). g .reset < 2 ^ g .width) (place ∙ same) (resets-fit i) in
+    let fits : f .reset < 2 ^ f .width = subst (λ (g : Field). g .reset < 2 ^ g .width) same (reset-small i h) in
     subst (λ (g : Field). fieldIn g (gathered (profileOf r) (λ (k : Field). fieldAt k r)) ≡ pick (stored g) (fieldAt g r % 2 ^ g .width) 0) same (gathered-field (profileOf r) (λ (g : Field). fieldAt g r) i h)
     ∙ ap (λ (t : Bool). pick t (fieldAt f r % 2 ^ f .width) 0) kept ∙ mod-eq-of-lt (small f fits r)
 
@@ -106,7 +123,7 @@ module _ (r : Run) where
   unfolding fields
   ichg-lifted = field-is r 90 (omega arith) ichgOverride refl refl
 
-in-register : (s t : Bool) (new old : ℕ) → s ≡ true → pick (s && t) new old ≡ pick t new old
+pub in-register : (s t : Bool) (new old : ℕ) → s ≡ true → pick (s && t) new old ≡ pick t new old
 in-register true t new old e = refl
 in-register false t new old e = absurd (false≢true e)
 

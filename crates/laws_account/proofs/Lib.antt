@@ -5,6 +5,7 @@ pub mod Choices
 mod Dogs
 mod Values
 pub mod Fields
+pub mod Ran
 mod Found
 pub mod Sharing
 pub mod Judging

@@ -2,14 +2,15 @@
 use Prim.Native.Nat.{ℕ, _+_, _*_, _/_, _%_, _^_}
 use mathlib.Core.Bool.{Bool, true, false, not, _&&_, _||_}
 use mathlib.Core.List.{List, [], _∷_}
-use lib.Dec.{eqb}
-use Rattle.base.specs.Pick.{bitOf}
+use lib.Dec.{leb, ltb, eqb}
+use Rattle.base.specs.Pick.{pick, bitOf}
+use Rattle.report_registers.specs.Reads.{flagByte}
 use Rattle.state_parts.specs.Numbers.{phaseNumber, bandNumber}
 use Rattle.state_parts.specs.declared.phase.Phase.{Phase}
 use Rattle.settle_permission.specs.Bits.{iindpmOf, vindpmOf, thermalOf, shutdownOf}
 use Rattle.laws_account.specs.History.{Run, powered, _▸_, since}
-use Rattle.step_turns.specs.declared.later.Later.the-variants.{Set, Write, TakeFlags, Observe, Service, Reset}
-use Rattle.laws_account.specs.Held.{sampleOf, expired}
+use Rattle.step_turns.specs.declared.later.Later.the-variants.{Set, Write, TakeFlags, Observe, Service, Reset, WriteRun, ReadFlags}
+use Rattle.laws_account.specs.Held.{profileOf, sampleOf, expired}
 use Rattle.laws_account.specs.Valued.{settingOf}
 use Rattle.laws_account.specs.Judged.{inputGood, inputOver, packOver, bandAt}
 use Rattle.laws_account.specs.Cycles.{limitReached}
@@ -61,15 +62,21 @@ abbrev pub changes : (Run → ℕ) → Run → Bool
 changes f (powered p) = false
 changes f (r ▸ e) = not (eqb (f r) (f (r ▸ e)))
 
--- "hands back the held flags and clears them"
-unfoldable pub wasTaken : Run → Bool
-wasTaken (powered p) = false
-wasTaken (r ▸ Set number value) = false
-wasTaken (r ▸ Write address byte) = false
-wasTaken (r ▸ TakeFlags) = true
-wasTaken (r ▸ Observe x) = false
-wasTaken (r ▸ Service) = false
-wasTaken (r ▸ Reset) = false
+-- 02, R-3: a flag register's own flags, "bits 0-7 for 0x20, 8-11 for 0x21"
+abbrev pub isIn : ℕ → Flag → Bool
+isIn address k = pick (eqb address 0x20) (ltb (placeOf k) 8) (leb 8 (placeOf k))
+
+-- a flag is taken: "hands back the held flags and clears them"; a "read of a flag register clears its own flags"
+unfoldable pub wasTaken : Flag → Run → Bool
+wasTaken k (powered p) = false
+wasTaken k (r ▸ Set number value) = false
+wasTaken k (r ▸ Write address byte) = false
+wasTaken k (r ▸ TakeFlags) = true
+wasTaken k (r ▸ Observe x) = false
+wasTaken k (r ▸ Service) = false
+wasTaken k (r ▸ Reset) = false
+wasTaken k (r ▸ WriteRun first raw) = false
+wasTaken k (r ▸ ReadFlags address) = isIn address k
 
 -- a flag's bit of the masks, setting 14, is 0
 abbrev pub unmasked : Flag → Run → Bool
@@ -99,12 +106,24 @@ module _ (P : Run → Phase) where
 
   -- a flag is held from its edge on until the flags are taken, those of that event too
   unfoldable pub flagged : Flag → Run → Bool
-  flagged k = since (λ m. not (wasTaken m)) (λ m. not (wasTaken m) && raised k m)
+  flagged k = since (λ m. not (wasTaken k m)) (λ m. not (wasTaken k m) && raised k m)
 
-  -- "take flags | none; hands back the held flags and clears them"; no other event hands any back
-  unfoldable pub handedBack : Flag → Run → Bool
-  handedBack k (powered p) = false
-  handedBack k (r ▸ e) = wasTaken (r ▸ e) && (flagged k r || edge k (r ▸ e))
+  -- the flags that an event finds: held before it, or raised by it
+  unfoldable pub isFound : Flag → Run → Bool
+  isFound k (powered p) = false
+  isFound k (r ▸ e) = flagged k r || edge k (r ▸ e)
+
+  -- "take flags | none; hands back the held flags and clears them"; a read of a flag register hands back its byte, as it reads with them; no other event hands any back
+  unfoldable pub handedBack : Run → ℕ
+  handedBack (powered p) = 0
+  handedBack (r ▸ Set number value) = 0
+  handedBack (r ▸ Write address byte) = 0
+  handedBack (r ▸ TakeFlags) = flagsBy (λ k. isFound k (r ▸ TakeFlags))
+  handedBack (r ▸ Observe x) = 0
+  handedBack (r ▸ Service) = 0
+  handedBack (r ▸ Reset) = 0
+  handedBack (r ▸ WriteRun first raw) = 0
+  handedBack (r ▸ ReadFlags address) = flagByte (profileOf r) address (flagsBy (λ k. isFound k (r ▸ ReadFlags address)))
 
   -- "One pulse per event with an unmasked edge, by the masks after it." "Power-on sets flags to 32 and pulses."
   unfoldable pub pulsed : Run → Bool

@@ -4,12 +4,17 @@ use mathlib.Core.Bool.{Bool, true, false, not, _&&_, _||_}
 use lib.Dec.{leb, eqb}
 use lib.IntN.{pos}
 use Rattle.base.specs.Pick.{pick}
+use Rattle.log_raw.specs.Raw.{byteOf}
+use Rattle.log_raw.specs.Struct.{rawOf}
+use Rattle.log_raw.specs.declared.RawBytes.{RawBytes}
 use Rattle.state_parts.specs.declared.profile.Profile.{Profile}
 use Rattle.state_parts.specs.declared.sample.Sample.{Sample}
 use Rattle.state_table.specs.Rows.{Field, bitOf, digitOf, vchgOverride, cellOverride, cellPin, ichgOverride}
+use Rattle.state_runs.specs.Bytes.{valueIn, isWritten, writtenCode}
+use Rattle.state_runs.specs.Runs.{resets, serves}
 use Rattle.settle_permission.specs.Bits.{iindpmOf, vindpmOf, thermalOf}
 use Rattle.laws_account.specs.History.{Run, powered, _▸_, sumAfter}
-use Rattle.step_turns.specs.declared.later.Later.the-variants.{Set, Write, TakeFlags, Observe, Service, Reset}
+use Rattle.step_turns.specs.declared.later.Later.the-variants.{Set, Write, TakeFlags, Observe, Service, Reset, WriteRun, ReadFlags}
 
 unfoldable pub profileOf : Run → Profile
 profileOf (powered p) = p
@@ -25,6 +30,8 @@ sampleOf (r ▸ TakeFlags) = sampleOf r
 sampleOf (r ▸ Observe x) = x
 sampleOf (r ▸ Service) = sampleOf r
 sampleOf (r ▸ Reset) = sampleOf r
+sampleOf (r ▸ WriteRun first raw) = sampleOf r
+sampleOf (r ▸ ReadFlags address) = sampleOf r
 
 -- "while the old sample shows any regulation", "no regulation": IINDPM, VINDPM or thermal regulation of the sample held
 abbrev pub regulated : Run → Bool
@@ -39,6 +46,8 @@ elapsed (r ▸ TakeFlags) = 0
 elapsed (r ▸ Observe x) = (x .stamp + 2 ^ 32 - sampleOf r .stamp) % 2 ^ 32
 elapsed (r ▸ Service) = 0
 elapsed (r ▸ Reset) = 0
+elapsed (r ▸ WriteRun first raw) = 0
+elapsed (r ▸ ReadFlags address) = 0
 
 -- what the last event was
 unfoldable pub wasObserved : Run → Bool
@@ -49,7 +58,10 @@ wasObserved (r ▸ TakeFlags) = false
 wasObserved (r ▸ Observe x) = true
 wasObserved (r ▸ Service) = false
 wasObserved (r ▸ Reset) = false
+wasObserved (r ▸ WriteRun first raw) = false
+wasObserved (r ▸ ReadFlags address) = false
 
+-- 02, R-3: "Reset and service bits act as kinds 7 and 6"
 unfoldable pub wasReset : Run → Bool
 wasReset (powered p) = false
 wasReset (r ▸ Set number value) = false
@@ -58,6 +70,8 @@ wasReset (r ▸ TakeFlags) = false
 wasReset (r ▸ Observe x) = false
 wasReset (r ▸ Service) = false
 wasReset (r ▸ Reset) = true
+wasReset (r ▸ WriteRun first raw) = resets first (rawOf raw)
+wasReset (r ▸ ReadFlags address) = false
 
 -- "service or a reset zeroes it"
 unfoldable pub wasServed : Run → Bool
@@ -68,6 +82,8 @@ wasServed (r ▸ TakeFlags) = false
 wasServed (r ▸ Observe x) = false
 wasServed (r ▸ Service) = true
 wasServed (r ▸ Reset) = true
+wasServed (r ▸ WriteRun first raw) = resets first (rawOf raw) || serves first (rawOf raw)
+wasServed (r ▸ ReadFlags address) = false
 
 -- "2. The watchdog adds the time (a period 0 counts nothing); reaching its period expires it"
 unfoldable pub unserved : Run → ℕ
@@ -98,6 +114,11 @@ fieldAt f (r ▸ TakeFlags) = fieldAt f r
 fieldAt f (r ▸ Observe x) = pick (isOverride f && (not (expired r) && expired (r ▸ Observe x))) 0 (fieldAt f r)
 fieldAt f (r ▸ Service) = fieldAt f r
 fieldAt f (r ▸ Reset) = pick (f .restored) (f .reset) (fieldAt f r)
+-- a run brings the code of every field that it writes, and then its reset bit acts
+fieldAt f (r ▸ WriteRun first raw) =
+    let written = pick (isWritten first (raw .length) f) (writtenCode (byteOf (rawOf raw)) first f) (fieldAt f r) in
+    pick (resets first (rawOf raw) && f .restored) (f .reset) written
+fieldAt f (r ▸ ReadFlags address) = fieldAt f r
 
 abbrev pub overridden : Pin → Run → Bool
 overridden k r = eqb (fieldAt (overrideOf k) r) 1
@@ -105,6 +126,10 @@ overridden k r = eqb (fieldAt (overrideOf k) r) 1
 -- "CELL_PIN takes a written count only if CELL_PIN_OVERRIDE stood before the write, the count is 1-7 and it differs."; `cells` is the count held before
 abbrev pub takes : Run → ℕ → ℕ → ℕ → Bool
 takes r cells address byte = eqb address (cellPin .address) && overridden cell r && not (eqb (digitOf cellPin byte) 0) && not (eqb (digitOf cellPin byte) cells)
+
+-- of a run: the override is that of before the run, and only the byte at 0x1B says a count
+abbrev pub runTakes : Run → ℕ → ℕ → RawBytes → Bool
+runTakes r cells first raw = isWritten first (raw .length) cellPin && takes r cells (cellPin .address) (valueIn (byteOf (rawOf raw)) (cellPin .address - first))
 
 -- the CELL_PIN held: a register reset "leaves pin codes"
 unfoldable pub cellsOf : Run → ℕ
@@ -115,3 +140,5 @@ cellsOf (r ▸ TakeFlags) = cellsOf r
 cellsOf (r ▸ Observe x) = cellsOf r
 cellsOf (r ▸ Service) = cellsOf r
 cellsOf (r ▸ Reset) = cellsOf r
+cellsOf (r ▸ WriteRun first raw) = pick (runTakes r (cellsOf r) first raw) (writtenCode (byteOf (rawOf raw)) first cellPin) (cellsOf r)
+cellsOf (r ▸ ReadFlags address) = cellsOf r

@@ -95,7 +95,7 @@ pulseAfter (some r) = pulsed phaseAt r
 
 abbrev pub handedAfter : Past → ℕ
 handedAfter none = noFlags
-handedAfter (some r) = flagsBy (λ k. handedBack phaseAt k r)
+handedAfter (some r) = handedBack phaseAt r
 
 -- what an event comes to: "A refusal returns its number, place and the old state."
 abbrev pub comesTo : ℕ → Past → Past → Outcome

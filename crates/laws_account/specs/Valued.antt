@@ -1,5 +1,5 @@
 -- The account, the settings: each by its number, 1 to 14, as a run's events leave it.
-use Prim.Native.Nat.{ℕ, _-_}
+use Prim.Native.Nat.{ℕ, _+_, _-_, _*_}
 use mathlib.Core.Bool.{Bool, not, _&&_, _||_}
 use mathlib.Core.List.{List, [], _∷_}
 use lib.ListN.{getD}
@@ -9,9 +9,17 @@ use Rattle.base.specs.Units.{inPack}
 use Rattle.base.specs.Volts.{millivoltsOf}
 use Rattle.state_parts.specs.Pins.{vchgOf, ichgOf}
 use Rattle.state_parts.specs.declared.profile.Profile.{Profile}
-use Rattle.state_table.specs.Rows.{digitOf, cellPin}
+use Rattle.log_raw.specs.Raw.{byteOf}
+use Rattle.log_raw.specs.Struct.{rawOf}
+use Rattle.log_raw.specs.declared.RawBytes.{RawBytes}
+use Rattle.state_table.specs.Rows.{Field, fieldsOf, over, digitOf, cellPin}
+use Rattle.state_table.specs.declared.Access.{Access}
+use Rattle.state_table.specs.declared.Access.the-variants.{Reserved, Fixed, Status, Flag, Stored, Setting, Mask, Counted, Pin, Acts}
+use Rattle.state_runs.specs.Bytes.{valueIn, stepwise}
+use Rattle.state_runs.specs.Registers.{masked}
+use Rattle.state_runs.specs.Runs.{resets}
 use Rattle.laws_account.specs.History.{Run, powered, _▸_}
-use Rattle.step_turns.specs.declared.later.Later.the-variants.{Set, Write, TakeFlags, Observe, Service, Reset}
+use Rattle.step_turns.specs.declared.later.Later.the-variants.{Set, Write, TakeFlags, Observe, Service, Reset, WriteRun, ReadFlags}
 use Rattle.laws_account.specs.Held.{profileOf, vchg, ichg, overridden, takes, cellsOf}
 
 -- "Pin fault: CELL_PIN 0; vchg or ichg code 0 without its override."
@@ -52,6 +60,29 @@ recounted p cells number held =
 abbrev pub forced : Run → ℕ → ℕ → ℕ
 forced r number value = pick (eqb number 9 && pinFault r) 0 value
 
+-- a field of a run that is a setting: "value = code x 20 (VREG x 10; bits and codes x 1)"; a mask sets its bits of setting 14
+abbrev pub fieldGives : ℕ → Access → ℕ → ℕ → ℕ
+fieldGives number Reserved code held = held
+fieldGives number (Fixed value) code held = held
+fieldGives number (Status which) code held = held
+fieldGives number (Flag first count) code held = held
+fieldGives number Stored code held = held
+fieldGives number (Setting n step) code held = pick (eqb n number) (code * step) held
+fieldGives number (Mask first count) code held = pick (eqb number 14) (masked first count code held) held
+fieldGives number Counted code held = held
+fieldGives number (Pin which) code held = held
+fieldGives number (Acts which) code held = held
+
+-- one register of a run: its fields, and the count where one is taken
+abbrev pub registerGives : ℕ → Run → ℕ → ℕ → ℕ → ℕ
+registerGives number r address value held =
+    let given = over (λ (f : Field). eqb (f .address) address) (λ (h : ℕ) (f : Field). fieldGives number (f .access) (digitOf f value) h) (fieldsOf (profileOf r)) held in
+    pick (takes r (cellsOf r) address value) (recounted (profileOf r) (digitOf cellPin value) number given) given
+
+-- "Registers are taken in ascending order"
+unfoldable pub runGives : ℕ → Run → ℕ → RawBytes → ℕ → ℕ
+runGives number r first raw held = stepwise (λ (h : ℕ) (i : ℕ). registerGives number r (first + i) (valueIn (byteOf (rawOf raw)) i) h) (raw .length) held
+
 -- the value that the last event gives a setting or leaves it, before EN_CHG is forced; `held` is the value before
 abbrev pub givenBy : ℕ → Run → ℕ → ℕ
 givenBy number (powered p) held = startValue p (p .cell) number
@@ -62,6 +93,9 @@ givenBy number (r ▸ TakeFlags) held = held
 givenBy number (r ▸ Observe x) held = held
 givenBy number (r ▸ Service) held = held
 givenBy number (r ▸ Reset) held = startValue (profileOf r) (cellsOf r) number
+givenBy number (r ▸ WriteRun first raw) held =
+    pick (resets first (rawOf raw)) (startValue (profileOf r) (cellsOf (r ▸ WriteRun first raw)) number) (runGives number r first raw held)
+givenBy number (r ▸ ReadFlags address) held = held
 
 unfoldable pub settingOf : ℕ → Run → ℕ
 settingOf number (powered p) = forced (powered p) number (givenBy number (powered p) 0)
