@@ -1,21 +1,22 @@
 -- The tests of a set and of a write, by which the model refuses, are the account's.
 use Prim.Native.Nat.{ℕ, _+_, _*_, _/_, _%_}
 use native.Mathlib.Omega.{arith}
-use mathlib.Core.Path.{_≡_, refl, sym, ap, _∙_}
+use mathlib.Core.Path.{_≡_, refl, ap, _∙_}
 use mathlib.Core.Bool.{Bool, true, false, not, _&&_, _||_}
 use lib.Dec.{leb, ltb, eqb}
-use borrow.Author.Tests.{leb-true, leb-false, ltb-true, ltb-false, lt-ltb, le-ltb, lt-leb, ne-eqb, not-true}
+use borrow.Author.Tests.{leb-true, leb-false, lt-ltb, le-ltb}
 use Rattle.base.specs.Pick.{pick}
-use Rattle.base.proofs.Span.{span, allOf, tested}
+use Rattle.base.proofs.Span.{span}
 use Rattle.log_raw.specs.Raw.{byteOf}
 use Rattle.log_raw.specs.Struct.{rawOf}
 use Rattle.log_raw.specs.declared.RawBytes.{RawBytes}
-use Rattle.state_table.specs.Rows.{Field, fields, fieldsOf, over, frequencyOk, fsw, digitOf}
+use Rattle.state_table.specs.Rows.{Field, fieldsOf, over, frequencyOk, fsw, digitOf}
 use Rattle.state_table.specs.declared.Access.{Access}
 use Rattle.state_table.specs.declared.Access.the-variants.{Reserved, Fixed, Status, Flag, Stored, Setting, Mask, Counted, Pin, Acts}
 use Rattle.state_runs.specs.Bytes.{valueIn, stepwise}
 use Rattle.state_runs.specs.Registers.{badBy, badRegister}
-use Rattle.state_runs.specs.Runs.{inMiddle, halves, badRun}
+use Rattle.state_runs.specs.Runs.{halves, badRun}
+use Rattle.state_runs.proofs.Middles.{middles-listed}
 use Rattle.state_parts.specs.declared.profile.Profile.{Profile}
 use Rattle.state_settings.specs.Ranges.{rangeOf, knownSetting, mayHold}
 use Rattle.laws_account.specs.Refused.{badValue, badFrequency, upperAt, badField, badBytes}
@@ -54,30 +55,8 @@ frequency-refused p byte =
     rw low (span (λ n. not (leb 1 n && leb n 6) ≡ (eqb n 0 || eqb n 7)) 0 8 (byte % 8) (refl, (refl, (refl, (refl, (refl, (refl, (refl, (refl, tt)))))))) (omega arith) (omega arith))
 
 -- ---- runs of bytes
--- the table's upper halves are those that the account lists
-abbrev agree : Bool → Bool → Bool
-agree true t = t
-agree false t = not t
-
-agreed : (s t : Bool) → agree s t ≡ true → s ≡ t
-agreed true t e = sym e
-agreed false t e = sym (not-true t e)
-
-halves-listed : (p : Profile) → allOf (λ (n : ℕ). agree (inMiddle p n) (upperAt n)) 0 39 ≡ true
-unfolding fieldsOf fields
-halves-listed p = refl
-
-half-is : (p : Profile) (a : ℕ) → inMiddle p a ≡ upperAt a
-half-is p a = go (ltb a 39) refl
-  where
-    go : (t : Bool) → ltb a 39 ≡ t → inMiddle p a ≡ upperAt a
-    go true e = agreed (inMiddle p a) (upperAt a) (tested (λ (n : ℕ). agree (inMiddle p n) (upperAt n)) 0 39 a (halves-listed p) (omega arith) (ltb-true a 39 e))
-    go false e =
-        let h = ltb-false a 39 e in
-        rw (e, lt-leb a 0x0D (omega arith), ne-eqb a 0x25 (λ q. omega arith)) refl
-
 pub half-refused : (p : Profile) (first count : ℕ) → halves p first count ≡ (upperAt first || upperAt (first + count))
-half-refused p first count = λ i. half-is p first i || half-is p (first + count) i
+half-refused p first count = λ i. middles-listed p first i || middles-listed p (first + count) i
 
 -- a field's value
 either-way : (known fits : Bool) → not (known && fits) ≡ (not known || not fits)

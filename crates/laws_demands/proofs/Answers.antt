@@ -13,7 +13,7 @@ use Rattle.state_parts.specs.declared.state.Model.the-variants.{Off}
 use Rattle.log_number.specs.Promises.{Bytes}
 use Rattle.log_event.specs.declared.Event.{Event}
 use Rattle.log_record.specs.Records.{Met, met, refused, end}
-use Rattle.laws_step.specs.Rows.{Among}
+use Rattle.laws_step.specs.Ranged.{Among}
 use Rattle.laws_format.specs.Format.{Spells, kind-then-numbers}
 use Rattle.laws_format.specs.Readers.{Reader, SpelledAt, Reads}
 use Rattle.laws_format.proofs.RecordsDecided.{record-among, record-within}

@@ -15,7 +15,7 @@ use Rattle.log_pairs.specs.Comparing as pairs
 use Rattle.step_kinds.specs.Answers.{Outcome}
 use Rattle.c_calls.specs.Promises.{RefusalLeaves, KeepsLengths}
 use Rattle.step_event.specs.Theorems.{Untouched}
-use Rattle.laws_step.specs.Rows.{Among}
+use Rattle.laws_step.specs.Ranged.{Among}
 use Rattle.laws_demands.specs.Product.{LogLines, Product}
 use Rattle.laws_demands.specs.Printed.{refusedRun}
 

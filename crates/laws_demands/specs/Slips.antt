@@ -23,7 +23,7 @@ use Rattle.settle_all.specs.Settle.{settledOf, settleOf}
 use Rattle.report_state.specs.Report.{trickleCurrent, currentIn, fastCurrent, reportOf}
 use Rattle.step_turns.specs.Turns.{turnOf}
 use Rattle.step_turns.specs.declared.later.Later.{Later}
-use Rattle.step_turns.specs.declared.later.Later.the-variants.{Set, Write, TakeFlags, Observe, Service, Reset}
+use Rattle.step_turns.specs.declared.later.Later.the-variants.{Set, Write, TakeFlags, Observe, Service, Reset, WriteRun, ReadFlags}
 use Rattle.step_turns.specs.declared.turn.Turn.{Turn}
 use Rattle.step_turns.specs.declared.turn.Turn.the-variants.{Opens, Follows, OpensOutside, FollowsOutside}
 use Rattle.step_flags.specs.Edges.{seenOf}
@@ -46,6 +46,8 @@ laterWritten TakeFlags s = s
 laterWritten (Observe x) s = s
 laterWritten Service s = s
 laterWritten Reset s = s
+laterWritten (WriteRun first raw) s = s
+laterWritten (ReadFlags address) s = s
 
 abbrev pub asWritten : Turn → State → State
 asWritten (Opens p) s = s
@@ -74,6 +76,8 @@ laterTimed counted s TakeFlags o = o
 laterTimed counted s (Observe x) o = pick (eqb (o .number) 0) (finishOf (seenOf s) (counted s x) Observes) o
 laterTimed counted s Service o = o
 laterTimed counted s Reset o = o
+laterTimed counted s (WriteRun first raw) o = o
+laterTimed counted s (ReadFlags address) o = o
 
 abbrev pub timedBy : (State → Sample → State) → State → Turn → Outcome → Outcome
 timedBy counted s (Opens p) o = o

@@ -9,6 +9,7 @@ use Rattle.log_reader.proofs.Contracts as reader
 use Rattle.log_pairs.proofs.Contracts as logs
 use Rattle.state_parts.proofs.Contracts as parts
 use Rattle.state_registers.proofs.Contracts as registers
+use Rattle.state_runs.proofs.Contracts as runs
 use Rattle.report_registers.proofs.Contracts as reads
 use Rattle.report_state.proofs.Contracts as state
 use Rattle.report_text.proofs.Contracts as text
@@ -35,6 +36,7 @@ every-call =
       log-pairs = logs.one-outcome;
       state-parts = parts.one-outcome;
       state-registers = registers.one-outcome;
+      state-runs = runs.one-outcome;
       report-registers = reads.one-outcome;
       report-state = state.one-outcome;
       report-text = text.one-outcome;

@@ -10,6 +10,7 @@ use Rattle.log_reader.specs.Contracts as reader
 use Rattle.log_pairs.specs.Contracts as logs
 use Rattle.state_parts.specs.Contracts as parts
 use Rattle.state_registers.specs.Contracts as registers
+use Rattle.state_runs.specs.Contracts as runs
 use Rattle.report_registers.specs.Contracts as reads
 use Rattle.report_state.specs.Contracts as state
 use Rattle.report_text.specs.Contracts as text
@@ -35,6 +36,7 @@ pub record EveryCall : Type 1 where
   pub log-pairs : logs.OneOutcome
   pub state-parts : parts.OneOutcome
   pub state-registers : registers.OneOutcome
+  pub state-runs : runs.OneOutcome
   pub report-registers : reads.OneOutcome
   pub report-state : state.OneOutcome
   pub report-text : text.OneOutcome

@@ -33,7 +33,8 @@ use Rattle.step_kinds.specs.Changes.{Changed}
 use Rattle.step_kinds.specs.Finish.{finishOf}
 use Rattle.step_kinds.specs.Plain.{afterWrite, setOf, writtenOf}
 use Rattle.step_event.specs.Steps.{observeOf, followedOf, movedOf, firstOf, changeOf, closedBy, turnedBy, stepOf}
-use Rattle.laws_step.specs.Rows.{Among, ResistorsIn, by-codes, by-resistors, Row, bad-field, bad-profile, bad-resistors, bad-byte, bad-sample, not-powered, too-far, no-setting, bad-value, no-address, bad-frequency}
+use Rattle.laws_step.specs.Ranged.{Among}
+use Rattle.laws_step.specs.Rows.{ResistorsIn, by-codes, by-resistors, Row, bad-field, bad-profile, bad-resistors, bad-byte, bad-sample, not-powered, too-far, no-setting, bad-value, no-address, bad-frequency}
 use Rattle.laws_step.specs.Theorems.{EachGiven, NumberKnown}
 use Rattle.laws_step.proofs.InRanges.{outside, refuted, failed, among, profile-in, resistors-in, sample-in, value-in, bad-frequency-is}
 

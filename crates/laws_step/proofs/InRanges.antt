@@ -18,7 +18,8 @@ use Rattle.state_settings.specs.Ranges.{lastSetting, rangeOf, knownSetting, may
 use Rattle.step_pins.proofs.Pins.{pin-table}
 use Rattle.step_turns.specs.Ranges.{profileInRange, sampleInRange, resistorsInRange}
 use Rattle.step_turns.specs.Coded.{codedOf}
-use Rattle.laws_step.specs.Rows.{Among, ProfileIn, ResistorsIn, SampleIn, ValueIn}
+use Rattle.laws_step.specs.Ranged.{Among, ValueIn}
+use Rattle.laws_step.specs.Rows.{ProfileIn, ResistorsIn, SampleIn}
 
 -- a test that fails, and the statement that it stands for
 pub outside : {P : Type 0} (t : Bool) → (t ≡ true) ↔ P → t ≡ false → ¬ P

@@ -1,5 +1,6 @@
 -- The laws of the crate `laws_step`.
 pub mod InRanges
+mod RunRows
 pub mod Given
 pub mod Powered
 pub mod Sums

@@ -1,4 +1,6 @@
 -- The definitions of the crate `laws_step`.
+pub mod Ranged
+pub mod RunRows
 pub mod Rows
 pub mod Theorems
 pub mod Powered

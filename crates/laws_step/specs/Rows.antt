@@ -1,6 +1,6 @@
 -- 01, "Refusal numbers | Given exactly when": the rows that a step can give, as statements. "Model order: 6, 10, 5, 11 for writes; 6, 8, 9 for sets; 6, 5, 7 for observations":
 -- a row says too that no earlier one of its order holds.
-use Prim.Native.Nat.{ℕ, _%_, _≤_, _<_}
+use Prim.Native.Nat.{ℕ, _≤_, _<_}
 use mathlib.Core.Path.{_≡_}
 use mathlib.Core.Bool.{true}
 use mathlib.Core.Logic.{_≢_, _⊎_}
@@ -17,11 +17,9 @@ use Rattle.log_event.specs.declared.spelled.SpelledProfile.{SpelledProfile}
 use Rattle.log_event.specs.declared.spelled.SpelledResistors.{SpelledResistors}
 use Rattle.log_event.specs.declared.spelled.SpelledSample.{SpelledSample}
 use Rattle.state_table.specs.Rows.{digitOf, fsw}
-use Rattle.state_settings.specs.Ranges.{lastSetting, rangeOf}
+use Rattle.state_settings.specs.Ranges.{lastSetting}
 use Rattle.state_valid.specs.Holds.{stateOk}
-
-abbrev pub Among : ℕ → ℕ → ℕ → Type 0
-Among n low high = (low ≤ n) × (n ≤ high)
+use Rattle.laws_step.specs.Ranged.{Among, ValueIn}
 
 -- "1 power-on | cell, vchg, ichg codes 0-7; ILIM ohms 0-33,000; stamp; cell ceiling 4,350-4,714; trickle, precharge, fast limits and watchdog period in seconds, 0-172,800"
 pub record ProfileIn (p : SpelledProfile) : Type 0 where
@@ -54,11 +52,6 @@ pub record SampleIn (x : SpelledSample) : Type 0 where
   pub ibat : (negsuc 9999 ≤ℤ x .ibat) × (x .ibat ≤ℤ pos 5000)
   pub ts : x .ts ≤ 100000
   pub bits : x .bits ≤ 63
-
--- "6 VSYSMIN 3,000-28,000 step 20" and so on: in its range and on its step, by the settings' table
-pub record ValueIn (p : Profile) (number value : ℕ) : Type 0 where
-  pub range : Among value (rangeOf p number .low) (rangeOf p number .high)
-  pub step : value % rangeOf p number .step ≡ 0
 
 -- "a power-on's" kinds
 pub data PowersOn : Event → Type 0 where

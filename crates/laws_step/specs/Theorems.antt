@@ -19,7 +19,8 @@ use Rattle.settle_all.specs.Settle.{settleOf}
 use Rattle.step_event.specs.Clock.{observedOf}
 use Rattle.step_kinds.specs.Answers.{Outcome}
 use Rattle.step_event.specs.Steps.{turnedBy, stepOf}
-use Rattle.laws_step.specs.Rows.{Among, Row}
+use Rattle.laws_step.specs.Ranged.{Among}
+use Rattle.laws_step.specs.Rows.{Row}
 
 -- "Given exactly when": each number but 0, which is an accepted event's, exactly when one of its rows says so
 abbrev pub Given : ℕ → Type 0

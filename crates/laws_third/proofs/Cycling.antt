@@ -11,7 +11,7 @@ use borrow.Author.Tests.{ne-eqb, eqb-false, ltb-true, ltb-false}
 use Rattle.base.specs.Pick.{pick}
 use Rattle.laws_account.specs.History.{Run, powered, _▸_, count, upTo, lastOf}
 use Rattle.step_turns.specs.declared.later.Later.{Later}
-use Rattle.step_turns.specs.declared.later.Later.the-variants.{Set, Write, TakeFlags, Observe, Service, Reset}
+use Rattle.step_turns.specs.declared.later.Later.the-variants.{Set, Write, TakeFlags, Observe, Service, Reset, WriteRun, ReadFlags}
 use Rattle.laws_account.specs.Held.{profileOf, sampleOf, regulated, elapsed, wasObserved, wasReset}
 use Rattle.laws_account.specs.Valued.{settingOf}
 use Rattle.laws_account.specs.Judged.{ending}
@@ -78,6 +78,8 @@ passed-is r TakeFlags = refl
 passed-is r (Observe x) = refl
 passed-is r Service = refl
 passed-is r Reset = refl
+passed-is r (WriteRun first raw) = refl
+passed-is r (ReadFlags address) = refl
 
 some-is : (n : ℕ) → ltb 0 n ≡ not (eqb n 0)
 some-is n = go (eqb n 0) (ltb 0 n) refl refl

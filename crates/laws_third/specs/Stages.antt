@@ -12,7 +12,7 @@ use Rattle.laws_account.specs.History.{Run, powered, _▸_, Since, count, upTo,
 use Rattle.laws_account.specs.Held.{profileOf, sampleOf, regulated, wasObserved, wasReset}
 use Rattle.laws_account.specs.Valued.{settingOf}
 use Rattle.laws_account.specs.Cycles.{Stage, limitOf, heldIn, numberAt, phaseAt}
-use Rattle.step_turns.specs.declared.later.Later.the-variants.{Set, Write, TakeFlags, Observe, Service, Reset}
+use Rattle.step_turns.specs.declared.later.Later.the-variants.{Set, Write, TakeFlags, Observe, Service, Reset, WriteRun, ReadFlags}
 use Rattle.laws_third.specs.Crossed.{InputGood, Short, Low}
 use Rattle.laws_third.specs.Banded.{Tapering, BelowRecharge}
 use Rattle.laws_third.specs.Allowed.{Permitted, Allowed}
@@ -47,6 +47,8 @@ passed (r ▸ TakeFlags) = 0
 passed (r ▸ Observe x) = (x .stamp + 4294967296 - sampleOf r .stamp) % 4294967296
 passed (r ▸ Service) = 0
 passed (r ▸ Reset) = 0
+passed (r ▸ WriteRun first raw) = 0
+passed (r ▸ ReadFlags address) = 0
 
 -- "goes to the stage held before it ..: two units per ms, one while the old sample shows any regulation .. a limit 0 counts nothing"
 abbrev pub unitsGiven : Stage → Run → ℕ

@@ -25,3 +25,13 @@ none-meets test (suc k) e i h =
 pub all-keep : {A : Type 0} (P : A → Type 0) (step : A → ℕ → A) (k : ℕ) → ((i : ℕ) → i < k → (a : A) → P a → P (step a i)) → (a : A) → P a → P (stepwise step k a)
 all-keep P step zero keeps a h = h
 all-keep P step (suc k) keeps a h = keeps k (omega arith) (stepwise step k a) (all-keep P step k (λ i l. keeps i (omega arith)) a h)
+
+-- a number that meets the test
+pub some-meets : (test : ℕ → Bool) (k : ℕ) → stepwise (λ (t : Bool) (i : ℕ). t || test i) k false ≡ true → (i : ℕ) × (i < k) × (test i ≡ true)
+some-meets test zero e = absurd (false≢true e)
+some-meets test (suc k) e = go (stepwise (λ (t : Bool) (j : ℕ). t || test j) k false) refl e (some-meets test k)
+  where
+    go : (t : Bool) → stepwise (λ (u : Bool) (j : ℕ). u || test j) k false ≡ t → (t || test k) ≡ true
+        → (stepwise (λ (u : Bool) (j : ℕ). u || test j) k false ≡ true → (i : ℕ) × (i < k) × (test i ≡ true)) → (i : ℕ) × (i < suc k) × (test i ≡ true)
+    go true et e rest = let m = rest et in (m .0, let h = m .1 in omega arith, m .2)
+    go false et e rest = (k, omega arith, e)

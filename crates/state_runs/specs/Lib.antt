@@ -2,4 +2,5 @@
 pub mod Bytes
 pub mod Registers
 pub mod Runs
+pub mod Theorems
 pub mod Contracts

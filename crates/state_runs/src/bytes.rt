@@ -8,7 +8,7 @@ use log_raw::RawBytes;
 use log_raw::bytes::byte_at;
 
 // What the register at byte i of a run takes: that byte, and the next one above it.
-pub fn value_in(raw: RawBytes, i: u32) -> u32
+pub(crate) fn value_in(raw: RawBytes, i: u32) -> u32
     ensures { λ r. ⌜ (r ≡ valueIn (byteOf (rawOf raw)) i) × (r ≤ 65535) ⌝ }
 {
     let low = byte_at(raw, i as usize);
