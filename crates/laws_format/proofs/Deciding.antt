@@ -8,10 +8,9 @@ use native.Mathlib.Decide.{ℕ-discrete}
 use lib.ListN.{length, take, drop, getD, length-append, length-drop, drop-of-length-le}
 use lib.Seq.{length-take-le, drop-append-le, drop-append-seam, drop-at, take-add, drop-drop, getD-drop}
 use Rattle.log_number.specs.Promises.{Bytes}
-use Rattle.log_number.proofs.Strings.{bytes-take, bytes-both}
+use Rattle.log_number.proofs.Strings.{bytes-take, bytes-drop, bytes-both}
 use Rattle.log_event.specs.declared.Event.{Event}
 use Rattle.log_record.specs.Records.{met, refused, end}
-use Rattle.log_record.proofs.ItemLaws.{bytes-drop}
 use Rattle.laws_format.specs.Unreadable.{NoRecord, LogRow}
 use Rattle.laws_format.specs.Readers.{Reader, Reads}
 use Rattle.laws_format.specs.Ours.{ourRead}
@@ -77,7 +76,7 @@ module _ (read : Reader) (d : Reads read) (log : List ℕ) (bs : Bytes log) (at 
 
   grows : n ≡ 1 → (more : List ℕ) × Bytes more × (e : Event) × (read (log ++ more) at ≡ met e (length (log ++ more)))
   grows is =
-      let b = record-begins (row .row) is (bytes-drop log at bs) in
+      let b = record-begins (row .row) is (bytes-drop at log bs) in
       let spelling : List ℕ = drop at log ++ b .more in
       let next : ℕ = length (log ++ b .more) in
       let far : next ≡ at + length spelling = omega (arith, inside, length-append log (b .more), length-append (drop at log) (b .more), length-drop at log) in

@@ -9,10 +9,10 @@ use borrow.Author.Tests.{le-leb, lt-leb}
 use Rattle.base.specs.Writing.{Wrote, wrote, written, put}
 use Rattle.base.specs.Writing as writing
 use Rattle.log_number.specs.Promises.{Bytes}
+use Rattle.log_number.proofs.Strings.{bytes-drop}
 use Rattle.log_event.specs.Kinds.{kinds}
 use Rattle.log_event.specs.declared.Event.{Event}
 use Rattle.log_record.specs.Records.{spellEvent, Met, met, refused, end, placed, readRecord, recordAt}
-use Rattle.log_record.proofs.ItemLaws.{bytes-drop}
 use Rattle.log_record.proofs.RecordLaws.{reads-back, one-spelling}
 use Rattle.laws_format.specs.Unreadable.{NoRecord, LogRow}
 use Rattle.laws_format.specs.Readers.{SpelledAt}
@@ -40,7 +40,7 @@ none-left at no-byte m = refl
 
 module _ (bytes : List ℕ) (bs : Bytes bytes) (at : ℕ) where
   here : Recorded (drop at bytes) (readRecord kinds (drop at bytes))
-  here = recorded (drop at bytes) (bytes-drop bytes at bs)
+  here = recorded (drop at bytes) (bytes-drop at bytes bs)
 
   row : (n place : ℕ) → ourRead bytes at ≡ refused n place → LogRow n bytes at place
   unfolding recordAt

@@ -7,8 +7,7 @@ use native.Mathlib.Decide.{decLt}
 use lib.ListN.{length, take, drop, take-append-drop}
 use lib.Seq.{take-add}
 use Rattle.log_number.specs.Promises.{Bytes}
-use Rattle.log_number.proofs.Strings.{bytes-take, bytes-both}
-use Rattle.log_record.proofs.ItemLaws.{bytes-drop}
+use Rattle.log_number.proofs.Strings.{bytes-take, bytes-drop, bytes-both}
 use Rattle.laws_format.specs.Deciding.{Decided, by-byte, by-end, OneDecided}
 
 -- what follows a byte that decided is one log of many
@@ -16,7 +15,7 @@ from-byte : (number : List ℕ → ℕ) (log more : List ℕ) (p : ℕ) → Byte
     → ((rest : List ℕ) → Bytes rest → number (take (suc p) log ++ rest) ≡ number log) → number (log ++ more) ≡ number log
 from-byte number log more p bs bm enough =
     let whole : log ++ more ≡ take (suc p) log ++ (drop (suc p) log ++ more) = ap (λ l. l ++ more) (sym (take-append-drop (suc p) log)) ∙ append-assoc (take (suc p) log) (drop (suc p) log) more in
-    ap number whole ∙ enough (drop (suc p) log ++ more) (bytes-both (drop (suc p) log) more (bytes-drop log (suc p) bs) bm)
+    ap number whole ∙ enough (drop (suc p) log ++ more) (bytes-both (drop (suc p) log) more (bytes-drop (suc p) log bs) bm)
 
 -- a log cut off behind a byte that decided has its number
 not-later : (number : List ℕ → ℕ) (log : List ℕ) (p q : ℕ) → Bytes log → p < q → q < length log
@@ -24,7 +23,7 @@ not-later : (number : List ℕ → ℕ) (log : List ℕ) (p q : ℕ) → Bytes l
 not-later number log p q bs later inside enough =
     let far : suc p + (q - suc p) ≡ q = omega arith in
     let parts : take q log ≡ take (suc p) log ++ take (q - suc p) (drop (suc p) log) = ap (λ k. take k log) (sym far) ∙ take-add (suc p) (q - suc p) log in
-    ap number parts ∙ enough _ (bytes-take (q - suc p) (drop (suc p) log) (bytes-drop log (suc p) bs))
+    ap number parts ∙ enough _ (bytes-take (q - suc p) (drop (suc p) log) (bytes-drop (suc p) log bs))
 
 pub one-decided : OneDecided
 one-decided number log bs p q (by-end here more bm other) (by-end there more' bm' other') = here ∙ sym there

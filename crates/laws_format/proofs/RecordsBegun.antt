@@ -6,13 +6,13 @@ use native.Mathlib.Omega.{arith}
 use lib.ListN.{length, length-append}
 use lib.Seq.{drop-append-seam}
 use Rattle.log_number.specs.Promises.{Bytes}
+use Rattle.log_number.proofs.Strings.{bytes-drop}
 use Rattle.log_event.specs.Items.{number, nums, numbers, shapes, values}
 use Rattle.log_event.specs.Kinds.{kindByte, shapesOf}
 use Rattle.log_event.specs.Events.{kindOf, itemsOf, eventOf}
 use Rattle.log_event.specs.declared.Event.{Event}
 use Rattle.log_event.specs.declared.kinds.Kind.{Kind}
 use Rattle.log_event.proofs.Remaking.{values-nums, all-numbers, every-kind}
-use Rattle.log_record.proofs.ItemLaws.{bytes-drop}
 use Rattle.laws_format.specs.Format.{last, Numbers, none, one, Listed, Spells, kind-then-numbers}
 use Rattle.laws_format.specs.Unreadable.{NoRecord, no-kind, stopped}
 use Rattle.laws_format.proofs.Formats.{listed-is, listed}
@@ -66,7 +66,7 @@ pub record-begins : {n p : ℕ} {s : List ℕ} → NoRecord n s p → n ≡ 1 �
 record-begins (no-kind b rest out) is bs = absurd (omega arith)
 record-begins (stopped n kind place e every ns before left l so few bad) is bs =
     let i = listed-is l in
-    let in-left : Bytes left = subst Bytes (drop-append-seam before left) (bytes-drop (before ++ left) (length before) (λ j. bs (suc j))) in
+    let in-left : Bytes left = subst Bytes (drop-append-seam before left) (bytes-drop (length before) (before ++ left) (λ j. bs (suc j))) in
     let g = number-grows bad is in-left in
     let v : ℕ = g .0 in
     let lacks : ℕ = length every - suc (length ns) in

@@ -9,6 +9,7 @@ use lib.ListN.{length, drop, length-append}
 use lib.Seq.{drop-append-seam}
 use Rattle.base.specs.Found.{Found, found, refused, moved}
 use Rattle.log_number.specs.Promises.{Bytes}
+use Rattle.log_number.proofs.Strings.{bytes-drop}
 use Rattle.log_event.specs.Items.{Shape, number, Item, num, shapes, values}
 use Rattle.log_event.specs.Kinds.{kindByte, shapesOf, KindRow, kindRow, kinds, rowFor}
 use Rattle.log_event.specs.Events.{kindOf, itemsOf, eventOf}
@@ -19,7 +20,6 @@ use Rattle.log_event.proofs.Remaking.{values-nums, shapes-long, row-of-its-own,
 use Rattle.log_record.specs.Items.{asNum, behind, andThen, readItems}
 use Rattle.log_record.specs.Records.{Met, ofKind, ofRow, readRecord}
 use Rattle.log_record.specs.Records as log
-use Rattle.log_record.proofs.ItemLaws.{bytes-drop}
 use Rattle.laws_format.specs.Format.{Groups, largest, Numbers, none, one, Listed, NoKind}
 use Rattle.laws_format.specs.Unreadable.{NoNumber, NoRecord, no-kind, stopped}
 use Rattle.laws_format.proofs.Formats.{number-read, listed-is, listed}
@@ -41,7 +41,7 @@ item-more : (hs : List Shape) {s : List ℕ} {x : Found ℕ} → Numbered s x �
     → Itemed (suc (length hs)) s (andThen (asNum x) (λ d. readItems hs (drop d s)))
 item-more hs (value n groups rest h g) bs ih =
     rw (drop-append-seam groups rest)
-    (behind-one (length hs) n groups h g (ih rest (subst Bytes (drop-append-seam groups rest) (bytes-drop (groups ++ rest) (length groups) bs))))
+    (behind-one (length hs) n groups h g (ih rest (subst Bytes (drop-append-seam groups rest) (bytes-drop (length groups) (groups ++ rest) bs))))
 item-more hs (no-number n p s bad) bs ih = stops n p p [] [] s none (omega arith) bad (omega arith)
 
 itemed : (hs : List Shape) (s : List ℕ) → Bytes s → Itemed (length hs) s (readItems hs s)

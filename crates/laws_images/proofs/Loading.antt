@@ -12,7 +12,7 @@ use Rattle.log_number.specs.Promises.{Bytes}
 use Rattle.state_parts.specs.declared.state.Model.{Model}
 use Rattle.state_parts.specs.declared.state.Model.the-variants.{Off, On}
 use Rattle.log_number.proofs.SignLaws.{signs}
-use Rattle.log_record.proofs.ItemLaws.{bytes-drop}
+use Rattle.log_number.proofs.Strings.{bytes-drop}
 use Rattle.state_settings.specs.Numbered.{settingNumbers}
 use Rattle.c_words.specs.Words.{bytesOf, wordAt, wordsIn}
 use Rattle.c_words.specs.Promises.{AllWords}
@@ -48,7 +48,7 @@ word-fits s h = omega (arith, h 0, h 1, h 2, h 3)
 pub all-words : (k : ℕ) (s : List ℕ) → Bytes s → AllWords (wordsIn k s)
 unfolding wordsIn
 all-words zero s h = tt
-all-words (suc k) s h = (word-fits s h, all-words k (drop 4 s) (bytes-drop s 4 h))
+all-words (suc k) s h = (word-fits s h, all-words k (drop 4 s) (bytes-drop 4 s h))
 
 -- a state that is made of words
 module _ (all : List ℕ) (words : AllWords all) where
@@ -90,7 +90,7 @@ from-storable bytes h = go (eqb (wordAt bytes 0) 0)
 
     go : (off : Bool) → Storable (pick off Off (On (stateFrom all)))
     go true = tt
-    go false = made-storable all (all-words stateCount (drop 4 bytes) (bytes-drop bytes 4 h))
+    go false = made-storable all (all-words stateCount (drop 4 bytes) (bytes-drop 4 bytes h))
 
 -- what loads was made from the bytes
 loads-from : (bytes : List ℕ) (m : Model) → modelIn bytes ≡ accepted m → modelFrom bytes ≡ m
