@@ -12,9 +12,11 @@ use Rattle.base.specs.Writing.{wrote, written, put}
 use Rattle.base.specs.Writing as writing
 use Rattle.state_parts.specs.declared.state.Model.{Model}
 use Rattle.state_parts.specs.declared.state.Model.the-variants.{Off, On}
+use Rattle.log_event.specs.Items.{allSound}
 use Rattle.log_event.specs.Kinds.{kinds}
+use Rattle.log_event.specs.Events.{itemsOf}
 use Rattle.log_event.specs.declared.Event.{Event}
-use Rattle.log_record.specs.Records.{Met, met, end, recordAt, spellEvent}
+use Rattle.log_record.specs.Records.{Met, met, end, recordAt, spellEvent, eventWritten, eventPut}
 use Rattle.log_record.specs.Records as log
 use Rattle.step_kinds.specs.Answers.{Outcome}
 use Rattle.step_event.specs.Steps.{stepOf}
@@ -60,9 +62,17 @@ not-put bytes out h = go (leb (length bytes) (length out)) h
     go true h = absurd (h refl)
     go false h = refl
 
+event-not-put : (e : Event) (out : List ℕ) → putTold (eventWritten e out) .number ≢ 0 → eventPut e out ≡ out
+unfolding eventWritten eventPut
+event-not-put e out h = go (allSound (itemsOf e)) h
+  where
+    go : (t : Bool) → putTold (pick t (written (spellEvent e) out) (writing.refused 5 0)) .number ≢ 0 → pick t (put (spellEvent e) out) out ≡ out
+    go true h = not-put (spellEvent e) out h
+    go false h = refl
+
 write-given : (g : Told Event) (out : List ℕ) → writeGiven g out .answer .number ≢ 0 → writeGiven g out .bytes ≡ out
 write-given (refused n) out h = refl
-write-given (accepted e) out h = not-put (spellEvent e) out h
+write-given (accepted e) out h = event-not-put e out h
 
 play-leaves : (image bytes : List ℕ) (place : ℕ) (shown : List ℕ) → playOf image bytes place shown .answer .number ≢ 0 → Untouched image shown (playOf image bytes place shown)
 unfolding playOf

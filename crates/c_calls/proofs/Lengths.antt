@@ -13,9 +13,11 @@ use Rattle.base.specs.Writing.{put}
 use Rattle.base.proofs.Tests.{leb-iff}
 use Rattle.state_parts.specs.declared.state.Model.{Model}
 use Rattle.state_parts.specs.declared.state.Model.the-variants.{Off, On}
+use Rattle.log_event.specs.Items.{allSound}
 use Rattle.log_event.specs.Kinds.{kinds}
+use Rattle.log_event.specs.Events.{itemsOf}
 use Rattle.log_event.specs.declared.Event.{Event}
-use Rattle.log_record.specs.Records.{Met, met, end, recordAt, spellEvent}
+use Rattle.log_record.specs.Records.{Met, met, end, recordAt, spellEvent, eventPut}
 use Rattle.log_record.specs.Records as log
 use Rattle.step_kinds.specs.Answers.{Outcome}
 use Rattle.step_event.specs.Steps.{stepOf}
@@ -99,9 +101,17 @@ report-long : (image report : List ℕ) → length (reportCallOf image report .b
 unfolding reportCallOf
 report-long image report = report-ready (readyOf image (length report) 24) report
 
+event-put-long : (e : Event) (out : List ℕ) → length (eventPut e out) ≡ length out
+unfolding eventPut
+event-put-long e out = go (allSound (itemsOf e))
+  where
+    go : (t : Bool) → length (pick t (put (spellEvent e) out) out) ≡ length out
+    go true = put-long (spellEvent e) out
+    go false = refl
+
 write-given : (g : Told Event) (out : List ℕ) → length (writeGiven g out .bytes) ≡ length out
 write-given (refused n) out = refl
-write-given (accepted e) out = put-long (spellEvent e) out
+write-given (accepted e) out = event-put-long e out
 
 write-long : (kind : ℕ) (words out : List ℕ) → length (writeCallOf kind words out .bytes) ≡ length out
 unfolding writeCallOf

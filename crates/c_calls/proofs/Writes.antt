@@ -8,12 +8,14 @@ use lib.Dec.{leb}
 use mathlib.Core.Bool.{Bool, true, false}
 use Rattle.base.specs.Pick.{pick}
 use Rattle.base.specs.Refusals.{refusalNumber}
-use Rattle.base.specs.Writing.{wrote, refused, written, writtenTold, put}
+use Rattle.base.specs.Writing.{wrote, refused, written, writtenTold}
 use Rattle.base.specs.declared.refusal.Refusal.{Refusal}
 use Rattle.base.specs.declared.written.Written.{Written}
 use Rattle.base.specs.declared.written.Written.the-variants.{Count, Refused}
+use Rattle.log_event.specs.Items.{allSound}
+use Rattle.log_event.specs.Events.{itemsOf}
 use Rattle.log_event.specs.declared.Event.{Event}
-use Rattle.log_record.specs.Records.{spellEvent}
+use Rattle.log_record.specs.Records.{spellEvent, eventWritten, eventPut}
 use Rattle.c_event.specs.Given.{givenTold, givenOf}
 use Rattle.c_calls.specs.Landing.{Left, left}
 use Rattle.c_calls.specs.Writing.{writeCallOf}
@@ -22,28 +24,29 @@ use Rattle.c_event.specs.declared.Given.{Given}
 use Rattle.c_event.specs.declared.Given.the-variants as given
 
 -- a count of bytes that were written is the record's
-the-count : (bytes out : List ℕ) (n : ℕ) → wrote n ≡ written bytes out → n ≡ length bytes
-unfolding written
-the-count bytes out n e = go (leb (length bytes) (length out)) e
+the-count : (e : Event) (out : List ℕ) (n : ℕ) → wrote n ≡ eventWritten e out → n ≡ length (spellEvent e)
+unfolding eventWritten written
+the-count e out n told = go (allSound (itemsOf e)) (leb (length (spellEvent e)) (length out)) told
   where
-    go : (t : Bool) → wrote n ≡ pick t (wrote (length bytes)) (refused 12 0) → n ≡ length bytes
-    go true e = cc
-    go false e = absurd (let z : _≡_ {A = ℕ} 0 1 = cc in omega arith)
+    go : (t u : Bool) → wrote n ≡ pick t (pick u (wrote (length (spellEvent e))) (refused 12 0)) (refused 5 0) → n ≡ length (spellEvent e)
+    go true true told = cc
+    go true false told = absurd (let z : _≡_ {A = ℕ} 0 1 = cc in omega arith)
+    go false u told = absurd (let z : _≡_ {A = ℕ} 0 1 = cc in omega arith)
 
 module _ (kind : ℕ) (bytes out : List ℕ) (g : Given) (told : givenTold g ≡ givenOf kind bytes) where
   pub not-given : (r : Refusal) (n : ℕ) → g ≡ given.Refused r → n ≡ refusalNumber r → _≡_ {A = Left Put} (left (record { number = n; count = 0; place = 0 }) out) (writeCallOf kind bytes out)
   unfolding writeCallOf
   not-given r n e en = rw (← told, e, en)
 
-  pub was-written : (e : Event) (w : Written) (n count : ℕ) (after : List ℕ) → g ≡ given.Event e → writtenTold w ≡ written (spellEvent e) out → after ≡ put (spellEvent e) out
+  pub was-written : (e : Event) (w : Written) (n count : ℕ) (after : List ℕ) → g ≡ given.Event e → writtenTold w ≡ eventWritten e out → after ≡ eventPut e out
       → w ≡ Count n → count ≡ length (spellEvent e) → _≡_ {A = Left Put} (left (record { number = 0; count = count; place = 0 }) after) (writeCallOf kind bytes out)
   unfolding writeCallOf
   was-written e w n count after eg ew ea en ec =
-      let told-one : wrote n ≡ written (spellEvent e) out = sym (ap writtenTold en) ∙ ew in
-      let same : count ≡ n = ec ∙ sym (the-count (spellEvent e) out n told-one) in
+      let told-one : wrote n ≡ eventWritten e out = sym (ap writtenTold en) ∙ ew in
+      let same : count ≡ n = ec ∙ sym (the-count e out n told-one) in
       rw (← told, eg, ← told-one, ea, same)
 
-  pub no-room : (e : Event) (w : Written) (r : Refusal) (n : ℕ) (after : List ℕ) → g ≡ given.Event e → writtenTold w ≡ written (spellEvent e) out → after ≡ put (spellEvent e) out
+  pub not-written : (e : Event) (w : Written) (r : Refusal) (n : ℕ) (after : List ℕ) → g ≡ given.Event e → writtenTold w ≡ eventWritten e out → after ≡ eventPut e out
       → w ≡ Refused r → n ≡ refusalNumber r → _≡_ {A = Left Put} (left (record { number = n; count = 0; place = 0 }) after) (writeCallOf kind bytes out)
   unfolding writeCallOf
-  no-room e w r n after eg ew ea er en = rw (← told, eg, ← ew, er, ea, en)
+  not-written e w r n after eg ew ea er en = rw (← told, eg, ← ew, er, ea, en)

@@ -6,6 +6,7 @@ use mathlib.Core.Option.{none, some}
 use lib.ListN.{length, take}
 use borrow.Author.Tests.{eq-eqb, ne-eqb}
 use Rattle.base.specs.Told.{Told, accepted, refused}
+use Rattle.log_event.specs.Items.{spans}
 use Rattle.log_event.specs.Kinds.{shapesOf, kindRow, kinds, rowFor, mostNumbers}
 use Rattle.log_event.specs.Events.{eventOf}
 use Rattle.log_event.specs.declared.Event.{Event}
@@ -25,12 +26,12 @@ module _ (kind : ℕ) (bytes : List ℕ) where
   unfolding givenOf
   no-kind e = rw e
 
-  pub other-count : (k : Kind) (count : ℕ) → rowFor kinds kind ≡ some (kindRow k) → count ≡ length (shapesOf k) → (length bytes ≡ count * 4 → ⊥)
+  pub other-count : (k : Kind) (count : ℕ) → rowFor kinds kind ≡ some (kindRow k) → count ≡ spans (shapesOf k) → (length bytes ≡ count * 4 → ⊥)
       → _≡_ {A = Told Event} (refused 5) (givenOf kind bytes)
   unfolding givenOf
   other-count k count e ec h = rw (e, ← ec, ne-eqb (length bytes) (count * 4) h)
 
-  pub given-is : (k : Kind) (count : ℕ) (all : List ℕ) (event : Event) → rowFor kinds kind ≡ some (kindRow k) → count ≡ length (shapesOf k) → count ≤ mostNumbers → length bytes ≡ count * 4
+  pub given-is : (k : Kind) (count : ℕ) (all : List ℕ) (event : Event) → rowFor kinds kind ≡ some (kindRow k) → count ≡ spans (shapesOf k) → count ≤ mostNumbers → length bytes ≡ count * 4
       → all ≡ wordsIn mostNumbers bytes → event ≡ eventOf k all → accepted event ≡ givenOf kind bytes
   unfolding givenOf
   given-is k count all event e ec few h ea ee =

@@ -7,6 +7,7 @@ use lib.Dec.{eqb}
 use Rattle.base.specs.Pick.{pick}
 use Rattle.base.specs.Refusals.{refusalNumber}
 use Rattle.base.specs.Told.{Told, accepted, refused}
+use Rattle.log_event.specs.Items.{spans}
 use Rattle.log_event.specs.Kinds.{KindRow, kinds, rowFor}
 use Rattle.log_event.specs.Events.{eventOf}
 use Rattle.log_event.specs.declared.Event.{Event}
@@ -22,7 +23,7 @@ givenTold (given.Refused r) = refused (refusalNumber r)
 abbrev pub givenRow : Option KindRow → List ℕ → Told Event
 givenRow none bytes = refused 4
 givenRow (some r) bytes =
-    let count = length (r .shapes) in
+    let count = spans (r .shapes) in
     pick (eqb (length bytes) (count * 4)) (accepted (eventOf (r .kind) (wordsIn count bytes))) (refused 5)
 
 unfoldable pub givenOf : ℕ → List ℕ → Told Event

@@ -53,7 +53,7 @@ module _ (read : Reader) (keeps : Reads read) (bytes : List ℕ) (are : Bytes by
 
   -- a log that was read from a place on, with records enough allowed for: to its end, or to what can't be read
   abbrev Ended : Log → Type 0
-  Ended l = ((l .code ≡ 0) × (l .offset ≡ length bytes)) ⊎ (Among (l .code) 1 4 × (l .offset ≤ length bytes))
+  Ended l = ((l .code ≡ 0) × (l .offset ≡ length bytes)) ⊎ (Among (l .code) 1 5 × (l .offset ≤ length bytes))
 
   ended-by : (most at : ℕ) → at ≤ length bytes → ((next : ℕ) → next ≤ length bytes → length bytes < next + most → Ended (logFrom read most bytes next))
       → length bytes < at + suc most → (x : Met) → ReadAt bytes at x → Ended (readOn at x (λ next. logFrom read most bytes next))

@@ -6,15 +6,16 @@ use mathlib.Core.Logic.{_≢_}
 use native.Mathlib.Omega.{arith}
 use native.Mathlib.Decide.{ℕ-discrete}
 use lib.ListN.{length, take, length-drop}
-use lib.Seq.{length-take-le, take-append-le, take-take}
+use lib.Seq.{length-take-le, take-append-le, take-take, take-all}
 use Rattle.log_number.specs.Promises.{Bytes}
 use Rattle.log_number.proofs.Strings.{bytes-take, bytes-both}
 use Rattle.log_event.specs.declared.Event.{Event}
 use Rattle.log_record.specs.Records.{refused}
 use Rattle.laws_format.specs.Readers.{Reader, Reads}
-use Rattle.laws_format.specs.Deciding.{Decided, by-byte, by-end}
+use Rattle.laws_format.specs.Deciding.{Decided, by-byte, by-end, refusedWith, numberBy, GoesOn, to-a-record, to-a-length}
 use Rattle.laws_format.proofs.Only.{stands}
 use Rattle.laws_format.proofs.RecordsDecided.{record-within}
+use Rattle.laws_format.proofs.ItemsDecided.{some-groups}
 use Rattle.laws_format.proofs.Deciding.{format-decides}
 use Rattle.laws_heads.specs.Given.{NoRecordAt, unreadable, at-end, Ending, ReplayGives, stops, goes-on}
 use Rattle.laws_heads.proofs.Givens.{few}
@@ -79,13 +80,13 @@ module _ (read : Reader) (d : Reads read) where
         agrees other bo agree (stops next m at (unreadable m at (d .refuses other bo next m at .0 r)))
         ∙ ap (λ fs. record { events = fs; code = m; offset = at }) (append-nil es)
 
-    same-line : n ≢ 1 → (rest : List ℕ) → Bytes rest → logBy read (take (suc told) bytes ++ rest) ≡ record { events = es; code = n; offset = told }
-    same-line other rest br =
+    same-line : n ≢ 1 → n ≢ 5 → (rest : List ℕ) → Bytes rest → logBy read (take (suc told) bytes ++ rest) ≡ record { events = es; code = n; offset = told }
+    same-line other far rest br =
         refused-there (take (suc told) bytes ++ rest) (bytes-both (take (suc told) bytes) rest (bytes-take (suc told) bytes bs) br)
         (λ k inside before.
         take-append-le k (take (suc told) bytes) rest (omega (arith, length-take-le (suc told) bytes (u .before other), u .behind))
         ∙ take-take k (suc told) bytes (omega (arith, u .behind)))
-        n told (format-decides read d .same bytes bs next n told (u .refuses) other rest br)
+        n told (format-decides read d .same bytes bs next n told (u .refuses) other far rest br)
 
     cut-agrees : (k : ℕ) → k ≤ length bytes → k ≤ next → take k (take told bytes) ≡ take k bytes
     cut-agrees k inside before = take-take k told bytes (omega (arith, u .behind))
@@ -105,36 +106,74 @@ module _ (read : Reader) (d : Reads read) where
             bad (sym same ∙ ap (λ (l : Log). l .code) (agrees (take told bytes) (bytes-take told bytes bs) cut-agrees (stops next 0 next over)))
 
     -- the end, and some longer log that has a record more and no code
-    open-end : n ≡ 1 → (more : List ℕ) × Bytes more × (codeBy read (bytes ++ more) ≡ 0)
+    open-end : n ≡ 1 → (more : List ℕ) × Bytes more × (codeBy read (bytes ++ more) ≢ 1)
     open-end is =
         let k = format-decides read d .goes-on bytes bs next told (subst (λ (m : ℕ). read bytes next ≡ refused m told) is (u .refuses)) in
-        let all = bytes-both bytes (k .0) bs (k .1) in
-        let far = length (bytes ++ k .0) in
-        let last : ReplayGives (bytes ++ k .0) next (k .2 ∷ []) (record { code = 0; told = far; next = far }) =
-        goes-on next (k .2) far [] _ (d .only (bytes ++ k .0) all next (k .2) far (k .3)) (stops far 0 far (at-end (omega arith))) in
-        (k .0, k .1, ap (λ (l : Log). l .code) (agrees (bytes ++ k .0) all (λ i inside before. take-append-le i bytes (k .0) inside) last))
+        (k .0, k .1, go (k .0) (k .1) (k .2))
+      where
+        before : (more : List ℕ) (i : ℕ) → i ≤ length bytes → i ≤ next → take i (bytes ++ more) ≡ take i bytes
+        before more i inside ahead = take-append-le i bytes more inside
 
-    decided-there : codeBy read bytes ≡ n → Decided (codeBy read) bytes told
-    decided-there code = go (ℕ-discrete n 1)
+        go : (more : List ℕ) → Bytes more → GoesOn read bytes more next → codeBy read (bytes ++ more) ≢ 1
+        go more bm (to-a-record e m) one =
+            let all = bytes-both bytes more bs bm in
+            let far = length (bytes ++ more) in
+            let last : ReplayGives (bytes ++ more) next (e ∷ []) (record { code = 0; told = far; next = far }) =
+            goes-on next e far [] _ (d .only (bytes ++ more) all next e far m) (stops far 0 far (at-end (omega arith))) in
+            let z : _≡_ {A = ℕ} 0 1 = sym (ap (λ (l : Log). l .code) (agrees (bytes ++ more) all (before more) last)) ∙ one in
+            omega arith
+        go more bm (to-a-length p ahead m) one =
+            let z : _≡_ {A = ℕ} 5 1 = sym (ap (λ (l : Log). l .code) (refused-there (bytes ++ more) (bytes-both bytes more bs bm) (before more) 5 p m)) ∙ one in
+            omega arith
+
+    -- for 5 the length's last group
+    length-there : codeBy read bytes ≡ n → n ≡ 5 → (last : ℕ) × (told ≤ last) × Decided (codeBy read) bytes last
+    length-there code is =
+        let k = format-decides read d .first bytes bs next told (subst (λ (m : ℕ). read bytes next ≡ refused m told) is (u .refuses)) in
+        let some : told ≤ k .last = omega (arith, k .behind, some-groups (k .spelled)) in
+        (k .last, some, go (k .last) some (k .decided) (k .same) (k .cut))
+      where
+        go : (last : ℕ) → told ≤ last → Decided (numberBy read next) bytes last → ((rest : List ℕ) → Bytes rest → read (take (suc last) bytes ++ rest) next ≡ refused 5 told)
+            → read (take last bytes) next ≡ refused 1 last → Decided (codeBy read) bytes last
+        go last some (by-end there more bm other) same cut = absurd (other (ap refusedWith (subst (λ l. read (l ++ more) next ≡ refused 5 told) (take-all (suc last) bytes (omega arith)) (same more bm)) ∙ sym (ap refusedWith (u .refuses) ∙ is)))
+        go last some (by-byte inside enough needed) same cut =
+            by-byte inside
+            (λ rest br. ap (λ (l : Log). l .code) (refused-there (take (suc last) bytes ++ rest) (bytes-both (take (suc last) bytes) rest (bytes-take (suc last) bytes bs) br)
+            (λ k within ahead.
+            take-append-le k (take (suc last) bytes) rest (omega (arith, length-take-le (suc last) bytes inside, u .behind))
+            ∙ take-take k (suc last) bytes (omega (arith, u .behind)))
+            5 told (same rest br)) ∙ sym (code ∙ is))
+            (λ same-code.
+            let z : _≡_ {A = ℕ} 1 5 = sym (ap (λ (l : Log). l .code) (refused-there (take last bytes) (bytes-take last bytes bs) (λ k within ahead. take-take k last bytes (omega (arith, u .behind))) 1 last cut)) ∙ same-code ∙ code ∙ is in
+            omega arith)
+
+    decided-there : codeBy read bytes ≡ n → n ≢ 5 → Decided (codeBy read) bytes told
+    decided-there code far = go (ℕ-discrete n 1)
       where
         go : Dec (n ≡ 1) → Decided (codeBy read) bytes told
         go (yes is) =
             let o = open-end is in
-            by-end (format-decides read d .ends bytes bs next n told (u .refuses) .0 is) (o .0) (o .1) (λ same. bad (sym code ∙ sym same ∙ o .2))
+            by-end (format-decides read d .ends bytes bs next n told (u .refuses) .0 is) (o .0) (o .1) (λ same. o .2 (same ∙ code ∙ is))
         go (no other) =
-            by-byte (u .before other) (λ rest br. ap (λ (l : Log). l .code) (same-line other rest br) ∙ sym code) (λ same. needed other (same ∙ code))
+            by-byte (u .before other) (λ rest br. ap (λ (l : Log). l .code) (same-line other far rest br) ∙ sym code) (λ same. needed other (same ∙ code))
 
 -- ---- every log
 pub lines-decide : LinesDecide
 lines-decide read d = record {
-  decided = λ bytes bs h.
+  decided = λ bytes bs h far.
       let o = one bytes bs in
       let code = ap (λ (l : Log). l .code) (o .2) in
-      subst (Decided (codeBy read) bytes) (sym (ap (λ (l : Log). l .offset) (o .2))) (decided-there read d bytes bs (o .1) (λ z. h (code ∙ z)) code);
-  same = λ bytes bs h other rest br.
+      subst (Decided (codeBy read) bytes) (sym (ap (λ (l : Log). l .offset) (o .2))) (decided-there read d bytes bs (o .1) (λ z. h (code ∙ z)) code (λ z. far (code ∙ z)));
+  length = λ bytes bs h.
       let o = one bytes bs in
       let code = ap (λ (l : Log). l .code) (o .2) in
-      rw (o .2) (same-line read d bytes bs (o .1) (λ z. h (code ∙ z)) (λ z. other (code ∙ z)) rest br);
+      let k = length-there read d bytes bs (o .1) (λ z. omega (arith, z, h, code)) code (sym code ∙ h) in
+      let there = ap (λ (l : Log). l .offset) (o .2) in
+      (k .0, omega (arith, k .1, there), k .2);
+  same = λ bytes bs h other far rest br.
+      let o = one bytes bs in
+      let code = ap (λ (l : Log). l .code) (o .2) in
+      rw (o .2) (same-line read d bytes bs (o .1) (λ z. h (code ∙ z)) (λ z. other (code ∙ z)) (λ z. far (code ∙ z)) rest br);
   cut = λ bytes bs h other.
       let o = one bytes bs in
       let code = ap (λ (l : Log). l .code) (o .2) in

@@ -11,7 +11,10 @@ use borrow.Author.Tests.{leb-true}
 use Rattle.base.specs.Pick.{pick}
 use Rattle.base.specs.Writing.{wrote, put, written}
 use Rattle.base.specs.Writing as answer
-use Rattle.log_record.specs.Records.{spellEvent}
+use Rattle.log_event.specs.Items.{allSound}
+use Rattle.log_event.specs.Events.{itemsOf}
+use Rattle.log_event.specs.declared.Event.{Event}
+use Rattle.log_record.specs.Records.{spellEvent, eventWritten, eventPut}
 use Rattle.step_event.proofs.Keeps.{refused-leaves}
 use Rattle.laws_step.proofs.Given.{number-known}
 use Rattle.laws_demands.specs.First.{WrittenIn}
@@ -38,11 +41,19 @@ puts bytes buffer = by (leb (length bytes) (length buffer)) refl
         told.written (length bytes) (bytes ++ drop (length bytes) buffer) room (length-append bytes (drop (length bytes) buffer) ∙ omega (arith, length-drop (length bytes) buffer)) (drop-append-seam bytes (drop (length bytes) buffer))
     by false short = told.no-room
 
+event-puts : (e : Event) (buffer : List ℕ) → WrittenIn buffer (eventWritten e buffer, eventPut e buffer)
+unfolding eventWritten eventPut
+event-puts e buffer = by (allSound (itemsOf e))
+  where
+    by : (t : Bool) → WrittenIn buffer (pick t (written (spellEvent e) buffer) (answer.refused 5 0), pick t (put (spellEvent e) buffer) buffer)
+    by true = puts (spellEvent e) buffer
+    by false = told.no-spelling
+
 pub first-holds : FirstHolds
 first-holds = record {
   steps = λ m e. record { number = number-known m e; refused = refused-leaves m e };
   reads = λ bytes are at. reads-answer ourRead our-reads bytes are at;
-  writes = λ e buffer. puts (spellEvent e) buffer;
+  writes = event-puts;
   walks = λ bytes are. walked stepOf reportOf ourRead ourWalk our-walks our-reads bytes are;
   compares = λ a b are bes. compared (our-compares a b are bes);
   leaves = refusal-leaves;

@@ -2,7 +2,7 @@
 use Prim.Native.Nat.{ℕ}
 use mathlib.Core.Path.{_≡_, refl, sym, _∙_}
 use mathlib.Core.List.{List}
-use mathlib.Core.Logic.{inl}
+use mathlib.Core.Logic.{inl, inr}
 use mathlib.Core.Option.{none, some}
 use native.Mathlib.Omega.{arith}
 use lib.ListN.{length}
@@ -34,14 +34,18 @@ some-kind k e =
 
 module _ (image bytes : List ℕ) (are : Bytes bytes) (place : ℕ) (shown : List ℕ) where
   by : (m : Told Model) → readyOf image (length shown) 28 ≡ m → (x : Met) → recordAt kinds bytes place ≡ x → PlayedAt place x (playReady m x image place shown .answer)
-  by (refused number) r (met e next) h = record { place = refl; next = λ k. refl }
+  by (refused number) r (met e next) h = record { place = λ other. refl; five = λ e. inr refl; next = λ k. refl }
   by (refused number) r (log.refused n decided) h =
       let low = record-among (our-reads .refuses bytes are place n decided .0 h .row) in
-      record { place = rw (ne-eqb number n (λ e. omega (arith, e, not-ready image (length shown) 28 number r, low .1))); next = λ k. refl }
-  by (refused number) r end h = record { place = refl; next = λ k. refl }
-  by (accepted m) r (met e next) h = record { place = refl; next = λ k. absurd (some-kind (kindOf e) k) }
-  by (accepted m) r (log.refused n decided) h = record { place = rw (eq-eqb n n refl); next = λ k. refl }
-  by (accepted m) r end h = record { place = refl; next = λ k. refl }
+      record {
+        place = λ other. rw (ne-eqb number n (λ e. omega (arith, e, other, not-ready image (length shown) 28 number r, low .1)));
+        five = λ e. inr refl;
+        next = λ k. refl;
+      }
+  by (refused number) r end h = record { place = λ other. refl; five = λ e. inr refl; next = λ k. refl }
+  by (accepted m) r (met e next) h = record { place = λ other. refl; five = λ e. inr refl; next = λ k. absurd (some-kind (kindOf e) k) }
+  by (accepted m) r (log.refused n decided) h = record { place = λ other. rw (eq-eqb n n refl); five = λ e. inl (rw (eq-eqb 5 n (sym e))); next = λ k. refl }
+  by (accepted m) r end h = record { place = λ other. refl; five = λ e. inr refl; next = λ k. refl }
 
   pub plays-at : PlayedAt place (recordAt kinds bytes place) (playOf image bytes place shown .answer)
   unfolding playOf

@@ -46,7 +46,7 @@ use Rattle.step_turns.specs.Turns.{heldProfile, turnOf}
 use Rattle.step_event.specs.Clock.{observedOf, countedOf, clearedIf, timesOf, unitsOf}
 use Rattle.step_event.specs.Steps.{stepOf, turnedBy, changeOf, firstOf, movedOf, followedOf, observeOf, seenOn}
 use Rattle.laws_account.proofs.Powering.{poweredOf}
-use Rattle.laws_demands.specs.First.{Answered, ReadAt, end, WrittenIn, no-room}
+use Rattle.laws_demands.specs.First.{Answered, ReadAt, end, WrittenIn, no-room, no-spelling}
 use Rattle.laws_format.specs.Readers.{Reader, Writer}
 use Rattle.laws_demands.specs.Product.{Step}
 use Rattle.laws_demands.specs.Refuted.{FirstRefuted}
@@ -60,6 +60,7 @@ ends-late bytes (end late) = late
 -- what a refused write leaves is what stood there
 stays : (buffer after : List ℕ) (n place : ℕ) → WrittenIn buffer (answer.refused n place, after) → after ≡ buffer
 stays buffer after n place no-room = refl
+stays buffer after n place no-spelling = refl
 
 pub first-refuted : FirstRefuted
 unfolding forgets stopsAlways spills stepOf written spellEvent settleOf startState firstOf stateOk movedOf spellItems forcedOf latchesOf bandOf settledOf testsOf startSettings profileOk settingsOk registersOk cycleOk watchdogOk sampleOk setOf observeOf faultOf baseOf shortOf lowOf packOverOf cycleOf phaseOf permittedOf suspendsOf belowRecharge taperOf chargeVoltageOf endingOf startVreg startIchg startVsysmin mayHold finishOf storeOf writeOf observedOf resetOf spell packClampOf inPack belowShare clearsOf endsOf judgedOf reachedOf cutOf regulatedOf heldOf wordsOk rangeOf edgesOf merged pulseOf writtenTo countedOf expiredOf clearedIf timesOf unitsOf resetRegisters groups restartsOf settingNumbers fieldsOf ranges seenOf recounted writtenRegisters takenBy gathered fields turnedBy changeOf followedOf writtenOf turnOf profileInRange sampleInRange seenOn startWords restoredBy withoutOverrides putIn withWord putAt expiresOf

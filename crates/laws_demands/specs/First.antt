@@ -28,18 +28,19 @@ pub record Answered (m : Model) (o : Outcome) : Type 0 where
 -- end
 pub data ReadAt (bytes : List ℕ) (at : ℕ) : Met → Type 0 where
   event : (e : Event) (next : ℕ) → at < next → next ≤ length bytes → ReadAt bytes at (log.met e next)
-  unreadable : (n place : ℕ) → at < length bytes → Among n 1 4 → at ≤ place → place ≤ length bytes → ReadAt bytes at (log.refused n place)
+  unreadable : (n place : ℕ) → at < length bytes → Among n 1 5 → at ≤ place → place ≤ length bytes → ReadAt bytes at (log.refused n place)
   end : length bytes ≤ at → ReadAt bytes at log.end
 
--- so many bytes written within the room, "bytes after it stay"; or 12 at the write place, and "a refused write changes no byte"
+-- so many bytes written within the room, "bytes after it stay"; or 12 at the write place, or 5 (02, R-3), and "a refused write changes no byte"
 pub data WrittenIn (buffer : List ℕ) : Wrote × List ℕ → Type 0 where
   written : (n : ℕ) (after : List ℕ) → n ≤ length buffer → length after ≡ length buffer → drop n after ≡ drop n buffer → WrittenIn buffer (wrote n, after)
   no-room : WrittenIn buffer (refused 12 0, buffer)
+  no-spelling : WrittenIn buffer (refused 5 0, buffer)
 
 -- a whole log: read to its end or to a record of it that can't be read, with a line for each record before; or 13 and no line
 pub data WalkedIn (bytes : List ℕ) (w : LogLines) : Type 0 where
   whole : w .last ≡ length (w .lines) ∷ 0 ∷ length bytes ∷ [] → WalkedIn bytes w
-  stopped : (n at : ℕ) → Among n 1 4 → at ≤ length bytes → w .last ≡ length (w .lines) ∷ n ∷ at ∷ [] → WalkedIn bytes w
+  stopped : (n at : ℕ) → Among n 1 5 → at ≤ length bytes → w .last ≡ length (w .lines) ∷ n ∷ at ∷ [] → WalkedIn bytes w
   too-long : 65536 < length bytes → w ≡ refusedRun → WalkedIn bytes w
 
 -- two logs: the rest of one from a place in it; the number of what can't be read in one of them, with the record's number and a place in that log; or 14 with the record's number and a place at
@@ -47,8 +48,8 @@ pub data WalkedIn (bytes : List ℕ) (w : LogLines) : Type 0 where
 pub data ComparedIn (a b : List ℕ) : Answer → Type 0 where
   rest-of-first : (at : ℕ) → at ≤ length a → ComparedIn a b (pairs.first at)
   rest-of-second : (at : ℕ) → at ≤ length b → ComparedIn a b (pairs.second at)
-  unread-in-first : (n number place : ℕ) → Among n 1 4 → 1 ≤ number → place ≤ length a → ComparedIn a b (pairs.refused n number place)
-  unread-in-second : (n number place : ℕ) → Among n 1 4 → 1 ≤ number → place ≤ length b → ComparedIn a b (pairs.refused n number place)
+  unread-in-first : (n number place : ℕ) → Among n 1 5 → 1 ≤ number → place ≤ length a → ComparedIn a b (pairs.refused n number place)
+  unread-in-second : (n number place : ℕ) → Among n 1 5 → 1 ≤ number → place ≤ length b → ComparedIn a b (pairs.refused n number place)
   parted : (number at : ℕ) → 1 ≤ number → at < length a → at < length b → ComparedIn a b (pairs.refused 14 number at)
 
 -- "the calls ask nothing of their caller": each is for every model, event, log, place and buffer, also a model that holds what it may not

@@ -4,7 +4,7 @@ use Prim.Native.Nat.{ℕ, _≤_, _<_}
 use mathlib.Core.Path.{_≡_}
 use mathlib.Core.Bool.{true}
 use mathlib.Core.List.{List}
-use mathlib.Core.Logic.{_↔_}
+use mathlib.Core.Logic.{_↔_, _≢_, _⊎_}
 use lib.Dec.{eqb}
 use lib.ListN.{length}
 use Rattle.base.specs.Pick.{pick}
@@ -75,7 +75,9 @@ placeBy number place end = place
 
 -- and "where the next record starts; the given place if none was read"
 pub record PlayedAt (given : ℕ) (there : Met) (told : Played) : Type 0 where
-  pub place : told .place ≡ placeBy (told .number) given there
+  pub place : told .number ≢ 5 → told .place ≡ placeBy (told .number) given there
+  -- 5 is the record's, of a length, or the image's
+  pub five : told .number ≡ 5 → (told .place ≡ placeBy 5 given there) ⊎ (told .place ≡ given)
   pub next : told .kind ≡ 0 → told .next ≡ given
 
 pub record SecondDemand (p : Product) : Type 0 where

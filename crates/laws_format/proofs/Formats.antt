@@ -1,25 +1,31 @@
 -- The paper's format is what this product's definitions spell.
 use Prim.Native.Nat.{ℕ, zero, suc, _+_, _-_, _*_, _/_, _%_, _^_, _≤_, _<_}
 use mathlib.Core.Path.{_≡_, refl, sym, ap, _∙_, subst}
-use mathlib.Core.List.{List, [], _∷_, _++_}
+use mathlib.Core.Bool.{true}
+use mathlib.Core.List.{List, [], _∷_, _++_, append-assoc}
 use native.Mathlib.Omega.{arith}
 use native.Mathlib.Decide.{decLt}
 use lib.IntN.{ℤ, pos, negsuc}
 use lib.ListN.{length}
 use Rattle.base.specs.Found.{found}
+use Rattle.base.proofs.Tests.{and-iff}
 use Rattle.log_number.specs.Ibat.{loggedOf}
 use Rattle.log_number.specs.Number.{withHighBit, spell, readNumber}
 use Rattle.log_number.proofs.Spellings.{spell-small, spell-more, reads-back}
-use Rattle.log_event.specs.Items.{Item, num, nums, values, AllFit}
+use Rattle.c_words.specs.Promises.{AllWords}
+use Rattle.log_raw.specs.Raw.{counted, hasSpelling, spellRaw}
+use Rattle.log_event.specs.Items.{Item, num, raw, Fits, AllFit, sound, allSound}
 use Rattle.log_event.specs.Kinds.{kindByte}
 use Rattle.log_event.specs.Events.{kindOf, itemsOf}
 use Rattle.log_event.specs.declared.Event.{Event}
 use Rattle.log_event.specs.declared.Event.the-variants.{PowerOn, Set, Write, TakeFlags, Observe, Service, Reset, PowerOnResistors}
-use Rattle.log_record.specs.Items.{spellItems}
+use Rattle.log_record.specs.Items.{spellItem, spellItems}
 use Rattle.log_record.specs.Records.{spellEvent}
 use Rattle.log_record.specs.Promises.{Spellable}
+use Rattle.log_record.proofs.ItemLaws.{all-sound}
 use Rattle.log_record.proofs.RecordLaws.{spellings-differ}
-use Rattle.laws_format.specs.Format.{Groups, last, more, largest, Numbers, none, one, Ibat, from-zero, below-zero, Listed, power-on, set, write, take-flags, observe, service, reset, power-on-resistors, Spells, kind-then-numbers, AllSmall, InRange, Signed32, SpelledOnce}
+use Rattle.laws_format.specs.Format.{Groups, last, more, largest, Stand, none, one, run, Ibat, from-zero, below-zero, Listed, power-on, set, write, take-flags, observe, service, reset, power-on-resistors, Spells, kind-then-numbers, AllSmall, AllSpelt, InRange, Signed32, SpelledOnce}
+use Rattle.laws_format.proofs.Raws.{spelled-raw, holds-counted}
 
 -- ---- groups
 pub groups-are : {n : ℕ} {groups : List ℕ} → Groups n groups → groups ≡ spell n
@@ -47,26 +53,58 @@ grouped n = grouped-below (suc n) n (omega arith)
 pub number-read : (n : ℕ) (groups rest : List ℕ) → n ≤ largest → Groups n groups → readNumber (groups ++ rest) ≡ found n (length groups)
 number-read n groups rest h g = rw (groups-are g) (reads-back n (omega arith) rest)
 
--- ---- numbers one after the other
-numbers-are : {ns bytes : List ℕ} → Numbers ns bytes → (bytes ≡ spellItems (nums ns)) × AllFit (nums ns)
+-- ---- numbers and raw bytes, one after the other
+pub record Stands (is : List Item) (bytes : List ℕ) : Type 0 where
+  pub same : bytes ≡ spellItems is
+  pub fits : AllFit is
+  pub sound : allSound is ≡ true
+
+pub stands : {is : List Item} {bytes : List ℕ} → Stand is bytes → Stands is bytes
+unfolding spellItems spellRaw
+stands none = record { same = refl; fits = tt; sound = refl }
+stands (one n is groups bytes h g others) =
+    let k = stands others in
+    record { same = ap (λ l. l ++ bytes) (groups-are g) ∙ ap (λ l. spell n ++ l) (k .same); fits = (omega arith, k .fits); sound = k .sound }
+stands (run r is groups held bytes h g others) =
+    let k = stands others in
+    let s = spelled-raw h in
+    let first : groups ++ held ≡ spell (r .count) ++ counted r = ap (λ l. l ++ held) (groups-are g ∙ ap spell (sym (h .long))) ∙ ap (λ l. spell (r .count) ++ l) (s .same) in
+    record {
+      same = sym (append-assoc groups held bytes) ∙ ap (λ l. l ++ bytes) first ∙ ap (λ l. (spell (r .count) ++ counted r) ++ l) (k .same);
+      fits = (s .fits, k .fits);
+      sound = and-iff (hasSpelling r) (allSound is) .1 (s .sound, k .sound);
+    }
+
+pub item-then : (i : Item) → Fits i → sound i ≡ true → {is : List Item} {bytes : List ℕ} → Stand is bytes → Stand (i ∷ is) (spellItem i ++ bytes)
+unfolding spellRaw
+item-then (num n) h t {is} {bytes} others = let small : n < 2 ^ 32 = h in one n is (spell n) bytes (omega arith) (grouped n) others
+item-then (raw r) h t {is} {bytes} others =
+    let held = holds-counted r h t in
+    rw (append-assoc (spell (r .count)) (counted r) bytes)
+    (run r is (spell (r .count)) (counted r) bytes held (subst (λ (n : ℕ). Groups n (spell (r .count))) (held .long) (grouped (r .count))) others)
+
+pub standing : (is : List Item) → AllFit is → allSound is ≡ true → Stand is (spellItems is)
 unfolding spellItems
-numbers-are none = (refl, tt)
-numbers-are (one n ns groups bytes h g others) =
-    let k = numbers-are others in
-    (ap (λ l. l ++ bytes) (groups-are g) ∙ ap (λ l. spell n ++ l) (k .0), (omega arith, k .1))
+standing [] h t = none
+standing (i ∷ is) h t = let b = all-sound i is t in item-then i (h .0) (b .0) (standing is (h .1) (b .1))
 
-numbered : (is : List Item) → AllFit is → Numbers (values is) (spellItems is)
-unfolding spellItems
-numbered [] h = none
-numbered (num n ∷ is) h = let small : n < 2 ^ 32 = h .0 in one n (values is) (spell n) (spellItems is) (omega arith) (grouped n) (numbered is (h .1))
+-- numbers in range are words
+pub small-words : (ns : List ℕ) → AllSmall ns → AllWords ns
+small-words [] h = tt
+small-words (n ∷ ns) h = let small : n ≤ largest = h .0 in (omega arith, small-words ns (h .1))
 
-all-small : (ns : List ℕ) → AllFit (nums ns) → AllSmall ns
-all-small [] h = tt
-all-small (n ∷ ns) h = let small : n < 2 ^ 32 = h .0 in (omega arith, all-small ns (h .1))
+all-spelt : (is : List Item) → AllFit is → allSound is ≡ true → AllSpelt is
+all-spelt [] h t = tt
+all-spelt (num n ∷ is) h t = let small : n < 2 ^ 32 = h .0 in (omega arith, all-spelt is (h .1) t)
+all-spelt (raw r ∷ is) h t = let b = all-sound (raw r) is t in ((counted r, holds-counted r (h .0) (b .0)), all-spelt is (h .1) (b .1))
 
-all-fit : (is : List Item) → AllSmall (values is) → AllFit is
-all-fit [] h = tt
-all-fit (num n ∷ is) h = let small : n ≤ largest = h .0 in (omega arith, all-fit is (h .1))
+spelt-fits : (is : List Item) → AllSpelt is → AllFit is × (allSound is ≡ true)
+spelt-fits [] h = (tt, refl)
+spelt-fits (num n ∷ is) h = let small : n ≤ largest = h .0 in let k = spelt-fits is (h .1) in ((omega arith, k .0), k .1)
+spelt-fits (raw r ∷ is) h =
+    let k = spelt-fits is (h .1) in
+    let s = spelled-raw (h .0 .1) in
+    ((s .fits, k .0), and-iff (hasSpelling r) (allSound is) .1 (s .sound, k .1))
 
 -- ---- the table
 ibat-is : {z : ℤ} {n : ℕ} → Ibat z n → n ≡ loggedOf z
@@ -77,7 +115,7 @@ ibat-logged : (z : ℤ) → Ibat z (loggedOf z)
 ibat-logged (pos n) = from-zero n
 ibat-logged (negsuc k) = let e : 2 * suc k - 1 ≡ 2 * k + 1 = omega arith in subst (λ (n : ℕ). Ibat (negsuc k) n) e (below-zero k)
 
-pub listed-is : {e : Event} {kind : ℕ} {ns : List ℕ} → Listed e kind ns → (kind ≡ kindByte (kindOf e)) × (nums ns ≡ itemsOf e)
+pub listed-is : {e : Event} {kind : ℕ} {is : List Item} → Listed e kind is → (kind ≡ kindByte (kindOf e)) × (is ≡ itemsOf e)
 listed-is (power-on p) = (refl, refl)
 listed-is (set number value) = (refl, refl)
 listed-is (write address byte) = (refl, refl)
@@ -87,7 +125,7 @@ listed-is service = (refl, refl)
 listed-is reset = (refl, refl)
 listed-is (power-on-resistors r) = (refl, refl)
 
-pub listed : (e : Event) → Listed e (kindByte (kindOf e)) (values (itemsOf e))
+pub listed : (e : Event) → Listed e (kindByte (kindOf e)) (itemsOf e)
 listed (PowerOn p) = power-on p
 listed (Set number value) = set number value
 listed (Write address byte) = write address byte
@@ -100,20 +138,22 @@ listed (PowerOnResistors r) = power-on-resistors r
 -- ---- events
 pub spells-are : {e : Event} {bytes : List ℕ} → Spells e bytes → (bytes ≡ spellEvent e) × Spellable e
 unfolding spellEvent
-spells-are (kind-then-numbers e kind ns bytes l so) =
+spells-are (kind-then-numbers e kind is bytes l so) =
     let i = listed-is l in
-    let k = numbers-are so in
-    (ap (λ b. b ∷ bytes) (i .0) ∙ ap (λ t. kindByte (kindOf e) ∷ t) (k .0 ∙ ap spellItems (i .1)), subst AllFit (i .1) (k .1))
+    let k = stands so in (
+      ap (λ b. b ∷ bytes) (i .0) ∙ ap (λ t. kindByte (kindOf e) ∷ t) (k .same ∙ ap spellItems (i .1)),
+      record { fits = subst AllFit (i .1) (k .fits); sound = sym (ap allSound (i .1)) ∙ k .sound },
+    )
 
 pub spelled : (e : Event) → Spellable e → Spells e (spellEvent e)
 unfolding spellEvent
-spelled e h = kind-then-numbers e (kindByte (kindOf e)) (values (itemsOf e)) (spellItems (itemsOf e)) (listed e) (numbered (itemsOf e) h)
+spelled e h = kind-then-numbers e (kindByte (kindOf e)) (itemsOf e) (spellItems (itemsOf e)) (listed e) (standing (itemsOf e) (h .fits) (h .sound))
 
 pub fits : (e : Event) → InRange e → Spellable e
-fits e h = all-fit (itemsOf e) (h (kindByte (kindOf e)) (values (itemsOf e)) (listed e))
+fits e h = let k = spelt-fits (itemsOf e) (h (kindByte (kindOf e)) (itemsOf e) (listed e)) in record { fits = k .0; sound = k .1 }
 
 in-range : (e : Event) → Spellable e → InRange e
-in-range e h kind ns l = all-small ns (subst AllFit (sym (listed-is l .1)) h)
+in-range e h kind is l = subst AllSpelt (sym (listed-is l .1)) (all-spelt (itemsOf e) (h .fits) (h .sound))
 
 signed-fits : (z : ℤ) → Signed32 z → loggedOf z ≤ largest
 signed-fits (pos n) h = omega arith

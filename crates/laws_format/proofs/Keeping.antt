@@ -1,6 +1,7 @@
 -- This product's reader and writer keep the format.
 use Prim.Native.Nat.{ℕ, _+_, _≤_, _<_}
 use mathlib.Core.Path.{_≡_, refl, sym, ap, _∙_, subst}
+use mathlib.Core.Bool.{Bool, true, false}
 use mathlib.Core.List.{List, [], _++_}
 use native.Mathlib.Omega.{arith}
 use lib.ListN.{length, drop, length-drop, drop-of-length-le}
@@ -10,20 +11,25 @@ use Rattle.base.specs.Writing.{Wrote, wrote, written, put}
 use Rattle.base.specs.Writing as writing
 use Rattle.log_number.specs.Promises.{Bytes}
 use Rattle.log_number.proofs.Strings.{bytes-drop}
-use Rattle.log_event.specs.Kinds.{kinds}
+use Rattle.log_event.specs.Items.{Item, values, allSound}
+use Rattle.log_event.specs.Kinds.{kindByte, kinds}
+use Rattle.log_event.specs.Events.{kindOf, itemsOf}
 use Rattle.log_event.specs.declared.Event.{Event}
-use Rattle.log_record.specs.Records.{spellEvent, Met, met, refused, end, placed, readRecord, recordAt}
-use Rattle.log_record.proofs.RecordLaws.{reads-back, one-spelling}
+use Rattle.log_event.proofs.Values.{words-fit}
+use Rattle.log_record.specs.Records.{spellEvent, eventWritten, eventPut, Met, met, refused, end, placed, readRecord, recordAt}
+use Rattle.log_record.specs.Promises.{Spellable}
+use Rattle.log_record.proofs.RecordLaws.{reads-back, one-spelling, no-spelling}
 use Rattle.laws_format.specs.Unreadable.{NoRecord, LogRow}
 use Rattle.laws_format.specs.Readers.{SpelledAt}
-use Rattle.laws_format.specs.Ours.{ourRead, OurReads, OurWrites}
-use Rattle.laws_format.proofs.Formats.{spells-are, spelled}
+use Rattle.laws_format.specs.Format.{Listed, Spells, AllSmall}
+use Rattle.laws_format.specs.Ours.{ourRead, ourWrite, OurReads, OurWrites}
+use Rattle.laws_format.proofs.Formats.{listed, spells-are, spelled, small-words}
 use Rattle.laws_format.proofs.RecordsRefused.{Recorded, a-record, no-record, no-byte, recorded, refused-record}
 
 only : (bytes : List ℕ) → Bytes bytes → (at : ℕ) (e : Event) (next : ℕ) → ourRead bytes at ≡ met e next → SpelledAt bytes at e next
 only bytes bs at e next m =
     let k = one-spelling bytes bs at e next m in
-    record { spelling = spellEvent e; spells = spelled e (k .fits); long = k .long; start = k .start }
+    record { spelling = spellEvent e; spells = spelled e (k .spellable); long = k .long; start = k .start }
 
 row-of : (at n place : ℕ) {s : List ℕ} {x : Met} → Recorded s x → placed at x ≡ refused n place → (after : ℕ) × NoRecord n s after × (place ≡ at + after)
 row-of at n place (a-record s e c) m = absurd (let z : _≡_ {A = ℕ} 0 1 = cc in omega arith)
@@ -76,8 +82,22 @@ write-none : (bytes buffer : List ℕ) → length buffer < length bytes → _≡
 unfolding written put
 write-none bytes buffer short = simp (lt-leb (length bytes) (length buffer) short)
 
+-- an event that has a spelling is written as its bytes are
+as-spelled : (e : Event) → Spellable e → (buffer : List ℕ) → ourWrite e buffer ≡ (written (spellEvent e) buffer, put (spellEvent e) buffer)
+unfolding eventWritten eventPut
+as-spelled e h buffer = simp (h .sound)
+
+-- one that has none, and the numbers of a program's event
+not-spelled : (e : Event) → ((kind : ℕ) (is : List Item) → Listed e kind is → AllSmall (values is)) → ((spelling : List ℕ) → ¬ Spells e spelling) → (buffer : List ℕ) → ourWrite e buffer ≡ (writing.refused 5 0, buffer)
+not-spelled e small none buffer = go (allSound (itemsOf e)) refl
+  where
+    go : (t : Bool) → allSound (itemsOf e) ≡ t → ourWrite e buffer ≡ (writing.refused 5 0, buffer)
+    go true et = absurd (none (spellEvent e) (spelled e (record { fits = words-fit (itemsOf e) (small-words (values (itemsOf e)) (small (kindByte (kindOf e)) (itemsOf e) (listed e))); sound = et })))
+    go false et = let u = no-spelling e et in λ i. (u .five buffer i, u .kept buffer i)
+
 pub our-writes : OurWrites
 our-writes = record {
-  written = λ e spelling sp buffer room. rw (← spells-are sp .0) (write-all spelling buffer (omega arith));
-  no-room = λ e spelling sp buffer short. rw (← spells-are sp .0) (write-none spelling buffer (omega arith));
+  written = λ e spelling sp buffer room. let k = spells-are sp in as-spelled e (k .1) buffer ∙ rw (← k .0) (write-all spelling buffer (omega arith));
+  no-room = λ e spelling sp buffer short. let k = spells-are sp in as-spelled e (k .1) buffer ∙ rw (← k .0) (write-none spelling buffer (omega arith));
+  no-spelling = not-spelled;
 }

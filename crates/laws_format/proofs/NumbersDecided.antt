@@ -19,7 +19,7 @@ high-take (suc k) [] h = tt
 high-take (suc k) (b ∷ hs) h = (h .0, high-take k hs (h .1))
 
 -- a number's groups have it, all but the last
-high-but-last : {n : ℕ} {groups : List ℕ} → Groups n groups → (k : ℕ) → length groups ≡ suc k → High (take k groups)
+pub high-but-last : {n : ℕ} {groups : List ℕ} → Groups n groups → (k : ℕ) → length groups ≡ suc k → High (take k groups)
 high-but-last (last n h) zero l = tt
 high-but-last (last n h) (suc k) l = absurd (omega arith)
 high-but-last (more low n groups h p g) zero l = tt
@@ -60,7 +60,7 @@ number-enough (zero-last high tail h p l) other rest =
     rw (one, take-append-add high (0 ∷ tail) 1, append-assoc high (0 ∷ []) rest) (zero-last high rest h p l)
 
 -- and without it the number is cut off
-cut-high : (k : ℕ) (s : List ℕ) → High (take k s) → k ≤ 4 → k ≤ length s → NoNumber 1 (take k s) k
+pub cut-high : (k : ℕ) (s : List ℕ) → High (take k s) → k ≤ 4 → k ≤ length s → NoNumber 1 (take k s) k
 cut-high k s h few room =
     let long : length (take k s) ≡ k = length-take-le k s room in
     subst (λ (p : ℕ). NoNumber 1 (take k s) p) long (cut-off (take k s) h (omega arith))

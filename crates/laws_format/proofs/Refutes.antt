@@ -13,7 +13,7 @@ use Rattle.log_event.specs.Events.{kindOf, eventOf}
 use Rattle.log_event.specs.Kinds.{kindByte}
 use Rattle.log_event.specs.declared.Event.the-variants.{Service}
 use Rattle.log_record.specs.Items.{spellItems, readItems}
-use Rattle.log_record.specs.Records.{Met, met, refused, end, spellEvent, readRecord, recordAt}
+use Rattle.log_record.specs.Records.{Met, met, refused, end, spellEvent, eventWritten, eventPut, readRecord, recordAt}
 use Rattle.laws_format.specs.Wrong.{readsFirst, tellsStart, StartRefuted, FormatRefuted}
 use Rattle.laws_format.proofs.Deciding.{format-decides}
 use Rattle.laws_format.proofs.Examples.{paper-bytes}
@@ -51,7 +51,7 @@ start-refuted = record {
 }
 
 pub format-refuted : FormatRefuted
-unfolding readsFirst recordAt readRecord readItems readNumber readGroups eventOf spellEvent spellItems written put
+unfolding readsFirst recordAt readRecord readItems readNumber readGroups eventOf spellEvent spellItems eventWritten eventPut written put
 format-refuted = record {
   -- the log 06 is a reset
   otherCode = λ d. let z : _≡_ {A = ℕ} 7 6 = ap numberOf (d .back Service (0x06 ∷ []) (paper-bytes .service) [] []) in omega arith;

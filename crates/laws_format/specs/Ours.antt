@@ -3,11 +3,10 @@ use Prim.Native.Nat.{ℕ, _≤_}
 use mathlib.Core.Path.{_≡_}
 use mathlib.Core.List.{List}
 use lib.ListN.{length}
-use Rattle.base.specs.Writing.{put, written}
 use Rattle.log_number.specs.Promises.{Bytes}
 use Rattle.log_event.specs.Kinds.{kinds}
 use Rattle.log_event.specs.declared.Event.{Event}
-use Rattle.log_record.specs.Records.{Met, met, refused, end, spellEvent, recordAt}
+use Rattle.log_record.specs.Records.{Met, met, refused, end, eventWritten, eventPut, recordAt}
 use Rattle.laws_format.specs.Format.{Spells}
 use Rattle.laws_format.specs.Unreadable.{LogRow}
 use Rattle.laws_format.specs.Readers.{Reader, Writer, SpelledAt, Reads, Writes}
@@ -16,7 +15,7 @@ abbrev pub ourRead : Reader
 ourRead = recordAt kinds
 
 abbrev pub ourWrite : Writer
-ourWrite e buffer = (written (spellEvent e) buffer, put (spellEvent e) buffer)
+ourWrite e buffer = (eventWritten e buffer, eventPut e buffer)
 
 -- this product keeps the format
 abbrev pub OurReads : Type 0

@@ -8,9 +8,10 @@ use lib.ListN.{length, drop}
 use Rattle.base.specs.Writing.{Wrote, wrote}
 use Rattle.base.specs.Writing as writing
 use Rattle.log_number.specs.Promises.{Bytes}
+use Rattle.log_event.specs.Items.{Item, values}
 use Rattle.log_event.specs.declared.Event.{Event}
 use Rattle.log_record.specs.Records.{Met, met, refused, end}
-use Rattle.laws_format.specs.Format.{Spells}
+use Rattle.laws_format.specs.Format.{Listed, Spells, AllSmall}
 use Rattle.laws_format.specs.Unreadable.{LogRow}
 
 -- a log and a place in it
@@ -34,7 +35,7 @@ pub record Reads (read : Reader) : Type 0 where
       → read (before ++ (spelling ++ rest)) (length before) ≡ met e (length before + length spelling)
   -- what reads as an event is its spelling
   pub only : (bytes : List ℕ) → Bytes bytes → (at : ℕ) (e : Event) (next : ℕ) → read bytes at ≡ met e next → SpelledAt bytes at e next
-  -- "No | Given exactly when", 1 to 4, and the place of each
+  -- "No | Given exactly when", 1 to 5, and the place of each
   pub refuses : (bytes : List ℕ) → Bytes bytes → (at n place : ℕ) → (read bytes at ≡ refused n place) ↔ LogRow n bytes at place
   -- the end, exactly from the log's end on
   pub ends : (bytes : List ℕ) → Bytes bytes → (at : ℕ) → (read bytes at ≡ end) ↔ (length bytes ≤ at)
@@ -46,3 +47,6 @@ pub record Writes (write : Writer) : Type 0 where
   -- 12: "record longer than the room left in the lent buffer"; "a refused write changes no byte"
   pub no-room : (e : Event) (spelling : List ℕ) → Spells e spelling → (buffer : List ℕ) → length buffer < length spelling
       → write e buffer ≡ (writing.refused 12 0, buffer)
+  -- 02, R-3: "has no spelling: the writer gives 5", whatever the room, of every event whose numbers are those of a program's
+  pub no-spelling : (e : Event) → ((kind : ℕ) (is : List Item) → Listed e kind is → AllSmall (values is)) → ((spelling : List ℕ) → ¬ Spells e spelling) → (buffer : List ℕ)
+      → write e buffer ≡ (writing.refused 5 0, buffer)

@@ -10,11 +10,12 @@ use lib.Dec.{eqb}
 use lib.ListN.{length}
 use borrow.Author.Tests.{eqb-true, eqb-false}
 use Rattle.log_number.specs.Promises.{Bytes}
-use Rattle.log_event.specs.Items.{numbers}
+use Rattle.log_event.specs.Items.{Item, values, spans, itemsFrom}
 use Rattle.log_event.specs.Kinds.{kindByte, shapesOf, KindRow, kinds, rowFor}
 use Rattle.log_event.specs.declared.Event.{Event}
 use Rattle.state_parts.specs.declared.state.Model.the-variants.{Off}
 use Rattle.log_event.proofs.Table.{own-row}
+use Rattle.log_event.proofs.Values.{values-from, shapes-from}
 use Rattle.log_record.specs.Records.{Met}
 use Rattle.step_event.specs.Walks.{startWalk}
 use Rattle.c_words.specs.Words.{wordBytes, bytesOf, wordAt, wordsIn}
@@ -23,8 +24,7 @@ use Rattle.c_words.proofs.WordLaws.{length-words}
 use Rattle.laws_images.proofs.Loading.{all-words}
 use Rattle.laws_format.specs.Format.{Listed, AllSmall}
 use Rattle.laws_format.specs.Ours.{AnswerAt, event, unreadable, over}
-use Rattle.laws_format.proofs.RecordsRefused.{none-listed}
-use Rattle.laws_format.proofs.RecordsBegun.{event-with}
+use Rattle.laws_format.proofs.RecordsRefused.{none-listed, event-with}
 use Rattle.laws_format.proofs.Only.{ahead, one-answer}
 use Rattle.laws_heads.specs.Given.{shownBytes, EventGives, given, no-room, no-kind, not-as-many, at-end, PlayGives, played, no-room-shown, no-record, Ending, ReplayGives, stops, goes-on, OneList, EveryInputGives}
 use Rattle.laws_heads.specs.Given as gives
@@ -60,22 +60,24 @@ small [] h = tt
 small (n ∷ ns) h = (omega (arith, h .0), small ns (h .1))
 
 module _ (kind : ℕ) (words : List ℕ) (bs : Bytes words) (room : ℕ) (fits : shownBytes ≤ room) where
-  as-many : (e : Event) (ns : List ℕ) → Listed e kind ns → AllSmall ns → (length words ≡ length ns * 4 → words ≡ bytesOf ns) → (t : Bool)
-      → eqb (length words) (length ns * 4) ≡ t → (new : List Event) × EventGives kind words room new
-  as-many e ns l h same true t = (e ∷ [], given e ns l h (same (eqb-true (length words) (length ns * 4) t)) fits)
-  as-many e ns l h same false t = ([], not-as-many e ns l (eqb-false (length words) (length ns * 4) t))
+  as-many : (e : Event) (is : List Item) → Listed e kind is → AllSmall (values is) → (length words ≡ length (values is) * 4 → words ≡ bytesOf (values is)) → (t : Bool)
+      → eqb (length words) (length (values is) * 4) ≡ t → (new : List Event) × EventGives kind words room new
+  as-many e is l h same true t = (e ∷ [], given e is l h (same (eqb-true (length words) (length (values is) * 4) t)) fits)
+  as-many e is l h same false t = ([], not-as-many e is l (eqb-false (length words) (length (values is) * 4) t))
 
   by-row : (x : Option KindRow) → rowFor kinds kind ≡ x → (new : List Event) × EventGives kind words room new
   by-row none o = ([], no-kind (none-listed kind o))
   by-row (some r) o =
       let own = own-row kind r o in
-      let count = length (shapesOf (r .kind)) in
-      let ns = wordsIn count words in
-      let long : length ns ≡ count = length-words count words in
-      let made = event-with (r .kind) ns long in
+      let hs = shapesOf (r .kind) in
+      let ns = wordsIn (spans hs) words in
+      let long : length ns ≡ spans hs = length-words (spans hs) words in
+      let is = itemsFrom hs ns in
+      let back : values is ≡ ns = values-from hs ns long in
+      let made = event-with (r .kind) is (shapes-from hs ns (omega arith)) in
       let byte : kindByte (r .kind) ≡ kind = ap (λ (q : KindRow). q .byte) (sym (own .0)) ∙ own .1 in
-      as-many (made .0) ns (subst (λ b. Listed (made .0) b ns) byte (made .1)) (small ns (all-words count words bs))
-      (λ h. sym (bytes-back count words bs (h ∙ ap (λ n. n * 4) long))) (eqb (length words) (length ns * 4)) refl
+      as-many (made .0) is (subst (λ b. Listed (made .0) b is) byte (made .2)) (subst AllSmall (sym back) (small ns (all-words (spans hs) words bs)))
+      (λ h. sym (ap bytesOf back ∙ bytes-back (spans hs) words bs (h ∙ ap (λ n. n * 4) (ap length back ∙ long)))) (eqb (length words) (length (values is) * 4)) refl
 
 some-event : (kind : ℕ) (words : List ℕ) → Bytes words → (room : ℕ) → (new : List Event) × EventGives kind words room new
 some-event kind words bs room = go (decLt room shownBytes)

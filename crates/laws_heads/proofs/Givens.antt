@@ -11,11 +11,12 @@ use borrow.Author.Tests.{lt-ltb, le-ltb, ne-eqb}
 use Rattle.base.specs.Pick.{pick}
 use Rattle.base.specs.Told.{Told, accepted, refused}
 use Rattle.log_number.specs.Promises.{Bytes}
-use Rattle.log_event.specs.Items.{nums, values, AllFit}
-use Rattle.log_event.specs.Kinds.{shapesOf, kinds}
-use Rattle.log_event.specs.Events.{kindOf, itemsOf}
+use Rattle.log_event.specs.Items.{Item, values, spans, AllFit}
+use Rattle.log_event.specs.Kinds.{kindByte, shapesOf, kinds}
+use Rattle.log_event.specs.Events.{kindOf}
 use Rattle.log_event.specs.declared.Event.{Event}
-use Rattle.log_event.proofs.Remaking.{values-nums, row-of-its-own}
+use Rattle.log_event.proofs.Values.{words-fit}
+use Rattle.log_event.proofs.Remaking.{row-of-its-own, count-of}
 use Rattle.log_record.specs.Records.{met, recordAt}
 use Rattle.log_record.specs.Records as log
 use Rattle.step_event.specs.Wholes.{eventBy, eventsOf}
@@ -25,29 +26,22 @@ use Rattle.c_event.proofs.Answers.{every-given}
 use Rattle.laws_format.specs.Format.{Listed, NoKind, AllSmall}
 use Rattle.laws_format.specs.Readers.{SpelledAt}
 use Rattle.laws_format.specs.Ours.{ourRead}
-use Rattle.laws_format.proofs.Formats.{listed-is}
-use Rattle.laws_format.proofs.RecordsRefused.{no-row, count-of}
+use Rattle.laws_format.proofs.Formats.{listed-is, small-words}
+use Rattle.laws_format.proofs.RecordsRefused.{no-row}
 use Rattle.laws_format.proofs.Keeping.{our-reads}
 use Rattle.laws_format.proofs.Only.{ahead, stands}
 use Rattle.laws_heads.specs.Given.{shownBytes, EventGives, given, no-room, no-kind, not-as-many, NoRecordAt, unreadable, at-end, PlayGives, played, no-room-shown, no-record, Ending, ReplayGives, stops, goes-on}
 
 -- ---- an event outside a log
-small-fits : (ns : List ℕ) → AllSmall ns → AllFit (nums ns)
-small-fits [] h = tt
-small-fits (n ∷ ns) h = (omega (arith, h .0), small-fits ns (h .1))
+module _ {e : Event} {kind : ℕ} {is : List Item} (l : Listed e kind is) where
+  pub is-given : AllSmall (values is) → givenOf kind (bytesOf (values is)) ≡ accepted e
+  is-given h = rw (listed-is l .0) (ap (λ js. givenOf (kindByte (kindOf e)) (bytesOf (values js))) (listed-is l .1) ∙ every-given e (subst AllFit (listed-is l .1) (words-fit is (small-words (values is) h))))
 
-module _ {e : Event} {kind : ℕ} {ns : List ℕ} (l : Listed e kind ns) where
-  are-values : ns ≡ values (itemsOf e)
-  are-values = sym (values-nums ns) ∙ ap values (listed-is l .1)
-
-  pub is-given : AllSmall ns → givenOf kind (bytesOf ns) ≡ accepted e
-  is-given h = rw (listed-is l .0, are-values) (every-given e (subst AllFit (listed-is l .1) (small-fits ns h)))
-
-  pub not-given : (words : List ℕ) → length words ≢ length ns * 4 → givenOf kind words ≡ refused 5
+  pub not-given : (words : List ℕ) → length words ≢ length (values is) * 4 → givenOf kind words ≡ refused 5
   unfolding givenOf
   not-given words h =
-      let long : length (shapesOf (kindOf e)) ≡ length ns = count-of e ∙ ap length (sym are-values) in
-      rw (listed-is l .0, row-of-its-own (kindOf e), long, ne-eqb (length words) (length ns * 4) h)
+      let long : spans (shapesOf (kindOf e)) ≡ length (values is) = count-of e ∙ ap (λ js. length (values js)) (sym (listed-is l .1)) in
+      rw (listed-is l .0, row-of-its-own (kindOf e), long, ne-eqb (length words) (length (values is) * 4) h)
 
 pub unknown : (kind : ℕ) (words : List ℕ) → NoKind kind → givenOf kind words ≡ refused 4
 unfolding givenOf
@@ -63,10 +57,10 @@ givenList (accepted e) = e ∷ []
 givenList (refused n) = []
 
 pub event-is : (kind : ℕ) (words : List ℕ) (room : ℕ) {new : List Event} → EventGives kind words room new → new ≡ pick (ltb room shownBytes) [] (givenList (givenOf kind words))
-event-is kind words room (given e ns l small same fits) = rw (same, is-given l small, le-ltb room shownBytes fits)
+event-is kind words room (given e is l small same fits) = rw (same, is-given l small, le-ltb room shownBytes fits)
 event-is kind words room (no-room short) = rw (lt-ltb room shownBytes short)
 event-is kind words room (no-kind out) = rw (unknown kind words out, same-none (ltb room shownBytes))
-event-is kind words room (not-as-many e ns l other) = rw (not-given l words other, same-none (ltb room shownBytes))
+event-is kind words room (not-as-many e is l other) = rw (not-given l words other, same-none (ltb room shownBytes))
 
 -- ---- a log
 pub met-there : {log : List ℕ} {place : ℕ} {e : Event} {next : ℕ} → SpelledAt log place e next → recordAt kinds log place ≡ met e next

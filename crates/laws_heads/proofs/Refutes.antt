@@ -12,6 +12,7 @@ use Rattle.log_number.proofs.Strings.{bytes-each}
 use Rattle.state_parts.specs.declared.state.Model.the-variants.{Off}
 use Rattle.log_event.specs.declared.Event.{Event}
 use Rattle.log_event.specs.declared.Event.the-variants.{PowerOn, Set, Observe}
+use Rattle.log_event.specs.Items.{nums}
 use Rattle.log_record.specs.Items.{spellItems}
 use Rattle.log_record.specs.Records.{spellEvent}
 use Rattle.log_record.specs.Logs.{spellLog}
@@ -27,7 +28,7 @@ use Rattle.c_calls.specs.declared.answer.Answer.{Answer}
 use Rattle.c_calls.specs.declared.answer.Replayed.{Replayed}
 use Rattle.laws_format.specs.Format.{last, none as none-more, one, from-zero}
 use Rattle.laws_format.specs.Format as format
-use Rattle.laws_format.specs.Unreadable.{cut-off, stopped}
+use Rattle.laws_format.specs.Unreadable.{cut-off, of-number, stopped}
 use Rattle.laws_format.specs.Readers.{SpelledAt}
 use Rattle.laws_format.proofs.Formats.{spelled}
 use Rattle.laws_format.proofs.Examples.{paper-bytes}
@@ -127,7 +128,7 @@ whole = 0x02 ∷ 0x01 ∷ 0x05 ∷ []
 cut-short : ReplayGives short 0 [] (record { code = 1; told = 2; next = 0 })
 cut-short = stops 0 1 2 (unreadable 1 2 (record {
   after = 2;
-  row = stopped 1 2 0 (Set 0 0) _ (1 ∷ []) (0x01 ∷ []) [] (format.set 0 0) (one 1 [] (0x01 ∷ []) [] (omega arith) (last 1 (omega arith)) none-more) (omega arith) (cut-off [] tt (omega arith));
+  row = stopped 1 2 0 (Set 1 0) (nums (1 ∷ [])) [] _ (0x01 ∷ []) [] (format.set 1 0) (one 1 [] (0x01 ∷ []) [] (omega arith) (last 1 (omega arith)) none-more) (of-number 1 0 [] (cut-off [] tt (omega arith)));
   counts = refl;
 }))
 
@@ -139,7 +140,7 @@ set-read = goes-on 0 (Set 1 5) 3 [] _ (record { spelling = whole; spells = spell
 from-byte : ReplayGives whole 2 [] (record { code = 1; told = 3; next = 2 })
 from-byte = stops 2 1 3 (unreadable 1 3 (record {
   after = 1;
-  row = stopped 1 5 0 (Observe _) _ [] [] [] (format.observe (record { stamp = 0; input = 0; pack = 0; ibat = pos 0; ts = 0; bits = 0 }) 0 (from-zero 0)) none-more (omega arith) (cut-off [] tt (omega arith));
+  row = stopped 1 5 0 (Observe _) [] _ _ [] [] (format.observe (record { stamp = 0; input = 0; pack = 0; ibat = pos 0; ts = 0; bits = 0 }) 0 (from-zero 0)) none-more (of-number 1 0 [] (cut-off [] tt (omega arith)));
   counts = refl;
 }))
 

@@ -5,6 +5,7 @@ use mathlib.Core.List.{List, [], _∷_}
 use mathlib.Core.Logic.{_≢_}
 use lib.ListN.{length}
 use Rattle.log_number.specs.Promises.{Bytes}
+use Rattle.log_event.specs.Items.{Item, values}
 use Rattle.log_event.specs.declared.Event.{Event}
 use Rattle.c_words.specs.Words.{bytesOf}
 use Rattle.laws_format.specs.Format.{Listed, NoKind, AllSmall}
@@ -17,13 +18,13 @@ shownBytes = 28
 
 -- cheukdane_event: "One event outside a log: its kind, and the kind's numbers as words, just as many as it has."
 pub data EventGives (kind : ℕ) (words : List ℕ) (room : ℕ) : List Event → Type 0 where
-  given : (e : Event) (ns : List ℕ) → Listed e kind ns → AllSmall ns → words ≡ bytesOf ns → shownBytes ≤ room → EventGives kind words room (e ∷ [])
+  given : (e : Event) (is : List Item) → Listed e kind is → AllSmall (values is) → words ≡ bytesOf (values is) → shownBytes ≤ room → EventGives kind words room (e ∷ [])
   -- "an answer buffer that is too short is 12"
   no-room : room < shownBytes → EventGives kind words room []
   -- "An unknown kind is 4;"
   no-kind : NoKind kind → EventGives kind words room []
   -- "words that aren't as many are 5."
-  not-as-many : (e : Event) (ns : List ℕ) → Listed e kind ns → length words ≢ length ns * 4 → EventGives kind words room []
+  not-as-many : (e : Event) (is : List Item) → Listed e kind is → length words ≢ length (values is) * 4 → EventGives kind words room []
 
 -- what is no record, its number and what is told of its place: "Unreadable: 1 to 4 and kind 0; `place` is of what decided it", "At the log's end or past it: number 0 and kind 0, and no
 -- byte is changed."

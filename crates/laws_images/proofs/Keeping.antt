@@ -12,10 +12,11 @@ use Rattle.log_number.specs.Promises.{Bytes}
 use Rattle.state_parts.specs.declared.state.Model.{Model}
 use Rattle.state_parts.specs.declared.state.Model.the-variants.{Off}
 use Rattle.log_event.specs.Kinds.{kinds}
+use Rattle.log_event.specs.Items.{AllFit}
+use Rattle.log_event.specs.Events.{itemsOf}
 use Rattle.log_event.specs.declared.Event.{Event}
 use Rattle.log_record.specs.Records.{Met, met, end, recordAt}
 use Rattle.log_record.specs.Records as log
-use Rattle.log_record.specs.Promises.{Spellable}
 use Rattle.step_event.specs.Steps.{stepOf}
 use Rattle.step_event.specs.Pages.{StopTold, full, unreadable, pageOf, restOf}
 use Rattle.step_event.specs.Pages as page
@@ -44,7 +45,7 @@ chosen true a b x h k = h refl
 chosen false a b x h k = k refl
 
 module _ (image : List ℕ) (m : Model) (loads : modelIn image ≡ accepted m) (shown : List ℕ) where
-  lands : (e : Event) → Spellable e → modelIn (landOf (stepOf m e) image shown .image) ≡ accepted (stepOf m e .model)
+  lands : (e : Event) → AllFit (itemsOf e) → modelIn (landOf (stepOf m e) image shown .image) ≡ accepted (stepOf m e .model)
   unfolding landOf
   lands e h =
       let o = stepOf m e in
@@ -56,14 +57,14 @@ module _ (image : List ℕ) (m : Model) (loads : modelIn image ≡ accepted m) (
   unfolding readyOf
   ready-is = rw loads
 
-  plays : (t : Bool) (r : Met) (place : ℕ) → ((e : Event) (next : ℕ) → r ≡ met e next → Spellable e)
+  plays : (t : Bool) (r : Met) (place : ℕ) → ((e : Event) (next : ℕ) → r ≡ met e next → AllFit (itemsOf e))
       → modelIn (playReady (pick t (refused 12) (accepted m)) r image place shown .image) ≡ accepted (pick t m (afterRead m r))
   plays true r place h = loads
   plays false (met e next) place h = lands e (h e next refl)
   plays false (log.refused number at) place h = loads
   plays false end place h = loads
 
-  gives : (t : Bool) (x : Told Event) → ((e : Event) → x ≡ accepted e → Spellable e)
+  gives : (t : Bool) (x : Told Event) → ((e : Event) → x ≡ accepted e → AllFit (itemsOf e))
       → modelIn (eventReady (pick t (refused 12) (accepted m)) x image shown .image) ≡ accepted (pick t m (afterGiven m x))
   gives true x h = loads
   gives false (accepted e) h = lands e (h e refl)

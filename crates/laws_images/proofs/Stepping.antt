@@ -12,9 +12,10 @@ use Rattle.state_parts.specs.declared.sample.Sample.{Sample}
 use Rattle.state_parts.specs.declared.state.State.{State}
 use Rattle.state_parts.specs.declared.state.Model.{Model}
 use Rattle.state_parts.specs.declared.state.Model.the-variants.{Off, On}
+use Rattle.log_event.specs.Items.{AllFit}
+use Rattle.log_event.specs.Events.{itemsOf}
 use Rattle.log_event.specs.declared.Event.{Event}
 use Rattle.log_event.specs.declared.Event.the-variants as event
-use Rattle.log_record.specs.Promises.{Spellable}
 use Rattle.state_table.specs.Rows.{frequencyOk, fsw, digitOf}
 use Rattle.state_start.specs.Values.{startState}
 use Rattle.state_settings.specs.Ranges.{knownSetting, mayHold}
@@ -79,7 +80,7 @@ in-turn : (t : Bool) (a b : Turn) → TurnStamped a → TurnStamped b → TurnSt
 in-turn true a b h k = h
 in-turn false a b h k = k
 
-spelled : (e : Event) → Spellable e → TurnStamped (turnOf e)
+spelled : (e : Event) → AllFit (itemsOf e) → TurnStamped (turnOf e)
 unfolding turnOf
 spelled (event.PowerOn p) k = in-turn (profileInRange p) (Opens (heldProfile p)) OpensOutside (k .1 .1 .1 .1 .0) tt
 spelled (event.Set number value) k = tt
@@ -160,7 +161,7 @@ closed m (accepted c) h k = finished (seenOn m) (c .state) (c .way) k
 closed m (refused n) h k = h
 
 -- the stamps after an event are its own or those before it
-stamps : (m : Model) (e : Event) → StampedIn m → Spellable e → StampedIn (stepOf m e .model)
+stamps : (m : Model) (e : Event) → StampedIn m → AllFit (itemsOf e) → StampedIn (stepOf m e .model)
 unfolding stepOf turnedBy
 stamps m e h k = closed m (changeOf m (turnOf e)) h (changes m (turnOf e) h (spelled e k))
 

@@ -4,9 +4,10 @@ use mathlib.Core.Path.{_≡_, refl}
 use mathlib.Core.List.{List}
 use Rattle.log_number.specs.Promises.{Bytes}
 use Rattle.log_event.specs.Kinds.{kinds}
+use Rattle.log_event.specs.Items.{AllFit}
+use Rattle.log_event.specs.Events.{itemsOf}
 use Rattle.log_event.specs.declared.Event.{Event}
 use Rattle.log_record.specs.Records.{Met, met, refused, end, recordAt}
-use Rattle.log_record.specs.Promises.{Spellable}
 use Rattle.log_record.proofs.RecordLaws.{one-spelling}
 use Rattle.step_event.specs.Walks.{metBy, metOf, afterRead, walkOf}
 use Rattle.step_event.specs.Pages.{Passed, passedBy, pageOf}
@@ -16,10 +17,10 @@ use Rattle.laws_images.specs.Promises.{PageStorable}
 use Rattle.laws_images.proofs.Stepping.{step-storable}
 
 -- what a record of a log's bytes holds fits
-pub read-fits : (bytes : List ℕ) → Bytes bytes → (place : ℕ) (e : Event) (next : ℕ) → recordAt kinds bytes place ≡ met e next → Spellable e
-read-fits bytes h place e next m = one-spelling bytes h place e next m .fits
+pub read-fits : (bytes : List ℕ) → Bytes bytes → (place : ℕ) (e : Event) (next : ℕ) → recordAt kinds bytes place ≡ met e next → AllFit (itemsOf e)
+read-fits bytes h place e next m = one-spelling bytes h place e next m .spellable .fits
 
-passed : (w : Walk) (r : Met) (more : Walk → Passed) → ((e : Event) (next : ℕ) → r ≡ met e next → Spellable e) → Storable (w .model)
+passed : (w : Walk) (r : Met) (more : Walk → Passed) → ((e : Event) (next : ℕ) → r ≡ met e next → AllFit (itemsOf e)) → Storable (w .model)
     → ((v : Walk) → Storable (v .model) → Storable (more v .last .model)) → Storable (passedBy w (afterRead w r) more .last .model)
 unfolding metBy
 passed w (met e next) more fits k ih = ih (metOf w e next .walk) (step-storable (w .model) e k (fits e next refl))

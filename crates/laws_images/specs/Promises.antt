@@ -12,10 +12,11 @@ use Rattle.state_parts.specs.declared.state.State.{State}
 use Rattle.state_parts.specs.declared.state.Model.{Model}
 use Rattle.state_parts.specs.declared.state.Model.the-variants.{Off, On}
 use Rattle.log_event.specs.Kinds.{kinds}
+use Rattle.log_event.specs.Items.{AllFit}
+use Rattle.log_event.specs.Events.{itemsOf}
 use Rattle.log_event.specs.declared.Event.{Event}
 use Rattle.log_record.specs.Records.{Met, met, end, recordAt}
 use Rattle.log_record.specs.Records as log
-use Rattle.log_record.specs.Promises.{Spellable}
 use Rattle.state_valid.specs.Holds.{stateOk}
 use Rattle.step_event.specs.Steps.{stepOf}
 use Rattle.step_event.specs.Pages.{pageOf, restOf}
@@ -37,7 +38,7 @@ ValidStorable = (s : State) → stateOk s ≡ true → Stamped s → Storable (O
 
 -- every event, accepted or refused, leaves a model that can be stored one that can
 abbrev pub StepStorable : Type 0
-StepStorable = (m : Model) (e : Event) → Storable m → Spellable e → Storable (stepOf m e .model)
+StepStorable = (m : Model) (e : Event) → Storable m → AllFit (itemsOf e) → Storable (stepOf m e .model)
 
 -- and so do the records of a log, at most so many from a walk on
 abbrev pub PageStorable : Type 0

@@ -9,7 +9,7 @@ use Rattle.report_text.specs.Decimal.{decimal, decimalBy}
 use Rattle.report_text.specs.Text.{lineText, headedText, endText}
 use Rattle.laws_format.specs.Format.{SpellsAll, no-events, event-then, none}
 use Rattle.laws_format.specs.Format as format
-use Rattle.laws_format.specs.Unreadable.{NoRecord, cut-off, stopped}
+use Rattle.laws_format.specs.Unreadable.{NoRecord, cut-off, of-number, stopped}
 use Rattle.laws_format.proofs.Examples.{paper-bytes}
 use Rattle.laws_pairs.specs.Compared.{second-is-start, first-is-start, first-unreadable, second-unreadable, different}
 use Rattle.laws_pairs.specs.Rows.{PairRows, PaperLines}
@@ -19,7 +19,7 @@ one-service : SpellsAll (Service ∷ []) (0x06 ∷ [])
 one-service = event-then Service [] (0x06 ∷ []) [] (paper-bytes .service) no-events
 
 cut : NoRecord 1 (0x02 ∷ []) 1
-cut = stopped 1 2 0 (Set 0 0) (0 ∷ 0 ∷ []) [] [] [] (format.set 0 0) none (omega arith) (cut-off [] tt (omega arith))
+cut = stopped 1 2 0 (Set 0 0) [] _ _ [] [] (format.set 0 0) none (of-number 1 0 [] (cut-off [] tt (omega arith)))
 
 pub pair-rows : PairRows
 pair-rows = record {
@@ -31,7 +31,7 @@ pair-rows = record {
   secondAlone = second-unreadable 1 1 (Service ∷ []) Service (0x06 ∷ []) (0x06 ∷ []) [] (0x02 ∷ []) one-service (paper-bytes .service) cut;
   zeroInFirst = first-unreadable 2 2 (Service ∷ []) (0x06 ∷ []) (0x02 ∷ 0x80 ∷ 0x00 ∷ []) (0x02 ∷ []) one-service (paper-bytes .numberByNumber) (omega arith);
   fifthInSecond = second-unreadable 3 5 (Service ∷ []) Reset (0x06 ∷ []) (0x07 ∷ []) [] (0x02 ∷ 0x80 ∷ 0x80 ∷ 0x80 ∷ 0x80 ∷ 0x80 ∷ []) one-service (paper-bytes .reset)
-      (stopped 3 2 4 (Set 0 0) (0 ∷ 0 ∷ []) [] [] _ (format.set 0 0) none (omega arith) (paper-bytes .fiveHigh));
+      (stopped 3 2 4 (Set 0 0) [] _ _ [] _ (format.set 0 0) none (of-number 3 4 _ (paper-bytes .fiveHigh)));
   different = different (Service ∷ []) Service Reset (0x06 ∷ []) (0x06 ∷ []) [] (0x07 ∷ []) [] one-service (paper-bytes .service) (paper-bytes .reset)
       (λ e. let z : _≡_ {A = ℕ} 0 1 = cc in omega arith);
 }

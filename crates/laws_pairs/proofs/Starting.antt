@@ -34,11 +34,11 @@ all-spelled log bs at [] to r = (no-events, omega (arith, r))
 all-spelled log bs at (e ∷ es) to r =
     let s = one-spelling log bs at e (r .0) (r .1) in
     let k = all-spelled log bs (r .0) es to (r .2) in
-    (event-then e es _ _ (spelled e (s .fits)) (k .0), omega (arith, s .long, k .1, length-append (spellEvent e) (spellLog es)))
+    (event-then e es _ _ (spelled e (s .spellable)) (k .0), omega (arith, s .long, k .1, length-append (spellEvent e) (spellLog es)))
 
 pub bad-bytes : {n place : ℕ} {rest : List ℕ} → NoRecord n rest place → 0 < length rest
 bad-bytes (no-kind b rest out) = omega arith
-bad-bytes (stopped n kind place e every ns before left l so few bad) = omega arith
+bad-bytes (stopped n kind place e early later next before left l so bad) = omega arith
 
 -- what stands after a log's start, and what is read there
 pub data After (at : ℕ) : List ℕ → Met → Type 0 where

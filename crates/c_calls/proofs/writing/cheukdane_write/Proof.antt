@@ -1,5 +1,5 @@
 -- `cheukdane_write` meets its contract.
-use Rattle.c_calls.proofs.Writes.{not-given, was-written, no-room}
+use Rattle.c_calls.proofs.Writes.{not-given, was-written, not-written}
 use borrow.Author.Needs.{needs}
 use Rattle.c_calls.proofs.writing.cheukdane_write.Statement.{statement}
 use Rattle.c_calls.proofs.writing.cheukdane_write.Tie as tie
@@ -32,7 +32,7 @@ returns-3 c =
     let g = at-got2 .got2 .given in
     let w = at-write .write in
     let r = at-written .written .given in
-    no-room (a .args .kind) (a .args .bytes .now) (a .args .out .now) (at-event-of .event-of .result) (at-event-of .event-of .ensures) (g .0 .0) (w .result) (r .0 .0) (c .number2 .result) (w .last .0) (g .1) (w .ensures .0) (w .ensures .1) (r .1) (c .number2 .ensures)
+    not-written (a .args .kind) (a .args .bytes .now) (a .args .out .now) (at-event-of .event-of .result) (at-event-of .event-of .ensures) (g .0 .0) (w .result) (r .0 .0) (c .number2 .result) (w .last .0) (g .1) (w .ensures .0) (w .ensures .1) (r .1) (c .number2 .ensures)
 
 pub cheukdane-write-spec : {M : Type 1} → statement M
 cheukdane-write-spec =
