@@ -16,6 +16,10 @@ use Rattle.log_event.specs.Items.{AllFit}
 use Rattle.log_event.specs.Events.{itemsOf}
 use Rattle.log_event.specs.declared.Event.{Event}
 use Rattle.log_event.specs.declared.Event.the-variants as event
+use Rattle.log_raw.specs.Raw.{Raw, byteOf, hasSpelling}
+use Rattle.log_raw.specs.Struct.{rawOf}
+use Rattle.report_registers.specs.Reads.{flagRegister}
+use Rattle.state_runs.specs.Runs.{outside, halves, illegalFrequency, badRun, writtenRun, writeRunOf, resets, serves}
 use Rattle.state_table.specs.Rows.{frequencyOk, fsw, digitOf}
 use Rattle.state_start.specs.Values.{startState}
 use Rattle.state_settings.specs.Ranges.{knownSetting, mayHold}
@@ -28,13 +32,13 @@ use Rattle.step_turns.specs.Ranges.{profileInRange, sampleInRange, resistorsInR
 use Rattle.step_turns.specs.Coded.{codedOf}
 use Rattle.step_turns.specs.Turns.{heldProfile, heldSample, opensWith, turnOf}
 use Rattle.step_turns.specs.declared.later.Later.{Later}
-use Rattle.step_turns.specs.declared.later.Later.the-variants.{Set, Write, TakeFlags, Observe, Service, Reset}
+use Rattle.step_turns.specs.declared.later.Later.the-variants.{Set, Write, TakeFlags, Observe, Service, Reset, WriteRun, ReadFlags}
 use Rattle.step_turns.specs.declared.turn.Turn.{Turn}
 use Rattle.step_turns.specs.declared.turn.Turn.the-variants.{Opens, Follows, OpensOutside, FollowsOutside}
 use Rattle.step_flags.specs.declared.between.Seen.{Seen}
 use Rattle.step_kinds.specs.Changes.{Changed}
 use Rattle.step_kinds.specs.Finish.{observing, finishOf}
-use Rattle.step_kinds.specs.Plain.{afterWrite, openedAs, setOf, writtenOf}
+use Rattle.step_kinds.specs.Plain.{afterWrite, openedAs, setOf, writtenOf, servicedOf, actedOf, afterRun, runFrom, readFlagsOf}
 use Rattle.step_kinds.specs.declared.change.Way.{Way}
 use Rattle.step_event.specs.Clock.{observedOf}
 use Rattle.step_event.specs.Steps.{observeOf, followedOf, movedOf, firstOf, changeOf, modelOk, seenOn, closedBy, turnedBy, stepOf}
@@ -69,6 +73,8 @@ LaterStamped TakeFlags = Unit {0}
 LaterStamped (Observe x) = x .stamp < 2 ^ 32
 LaterStamped Service = Unit {0}
 LaterStamped Reset = Unit {0}
+LaterStamped (WriteRun first raw) = Unit {0}
+LaterStamped (ReadFlags address) = Unit {0}
 
 abbrev TurnStamped : Turn → Type 0
 TurnStamped (Opens p) = p .stamp < 2 ^ 32
@@ -89,6 +95,8 @@ spelled event.TakeFlags k = tt
 spelled (event.Observe x) k = in-turn (sampleInRange x) (Follows (Observe (heldSample x))) FollowsOutside (k .0) tt
 spelled event.Service k = tt
 spelled event.Reset k = tt
+spelled (event.WriteRun first raw) k = tt
+spelled (event.ReadFlags address) k = tt
 spelled (event.PowerOnResistors r) k = in-turn (resistorsInRange r) (opensWith (codedOf r)) OpensOutside (in-turn (profileInRange (codedOf r)) (Opens (heldProfile (codedOf r))) OpensOutside (k .1 .1 .1 .1 .0) tt) tt
 
 -- settling, flags and what a write leaves move no stamp
@@ -103,6 +111,21 @@ finished before s way h = settled s (observing way) (s .flags) h
 written : (s : State) (address byte : ℕ) → Stamped s → Stamped (writtenTo s address byte)
 unfolding writtenTo
 written s address byte h = h
+
+-- nor what a run leaves
+ran-stamps : (s : State) (first : ℕ) (raw : Raw) → Stamped s → Stamped (writtenRun s first raw)
+unfolding writtenRun
+ran-stamps s first raw h = h
+
+acted-stamps : (s : State) (first : ℕ) (raw : Raw) → Stamped s → Stamped (actedOf s first raw)
+unfolding actedOf resetOf
+acted-stamps s first raw h = by (resets first raw) (serves first raw)
+  where
+    by : (resets serves : Bool) → let reset = pick resets (resetOf s) s in Stamped (pick serves (servicedOf reset) reset)
+    by true true = h
+    by true false = h
+    by false true = h
+    by false false = h
 
 powered : (p : Profile) → p .stamp < 2 ^ 32 → StampedBy (openedAs p)
 unfolding startState
@@ -124,18 +147,33 @@ module _ (s : State) (h : Stamped s) where
       by false false true = tt
       by false false false = written s address byte h
 
+  runs : (first : ℕ) (raw : Raw) → StampedBy (runFrom s first raw)
+  unfolding runFrom writeRunOf
+  runs first raw = by (not (hasSpelling raw)) (outside first (raw .count)) (halves (s .profile) first (raw .count)) (illegalFrequency (byteOf raw) first (raw .count) (s .profile)) (badRun (byteOf raw) first (raw .count) (s .profile))
+    where
+      by : (a b c d e : Bool)
+          → StampedBy (afterRun (pick a (refused 5) (pick b (refused 10) (pick c (refused 15) (pick d (refused 11) (pick e (refused 9) (accepted (writtenRun s first raw))))))) first raw)
+      by true b c d e = tt
+      by false true c d e = tt
+      by false false true d e = tt
+      by false false false true e = tt
+      by false false false false true = tt
+      by false false false false false = acted-stamps (writtenRun s first raw) first raw (ran-stamps s first raw h)
+
   observes : (x : Sample) → x .stamp < 2 ^ 32 → StampedBy (observeOf s x)
   unfolding observeOf observedOf
   observes x k = chosen (ltb 3600000 (elapsedOf (s .sample .stamp) (x .stamp))) _ _ tt (h .0, k)
 
   follows : (e : Later) → LaterStamped e → StampedBy (followedOf s e)
-  unfolding followedOf resetOf
+  unfolding followedOf resetOf readFlagsOf
   follows (Set number value) k = sets number value
   follows (Write address byte) k = writes address byte
   follows TakeFlags k = h
   follows (Observe x) k = observes x k
   follows Service k = h
   follows Reset k = h
+  follows (WriteRun first raw) k = runs first (rawOf raw)
+  follows (ReadFlags address) k = chosen (not (flagRegister (s .profile) address)) _ _ tt h
 
   moves : (t : Turn) → TurnStamped t → StampedBy (movedOf s t)
   unfolding movedOf

@@ -1,8 +1,8 @@
 -- Each refusal is given exactly when one of its rows says so.
-use Prim.Native.Nat.{ℕ}
+use Prim.Native.Nat.{ℕ, _+_}
 use mathlib.Core.Path.{_≡_, refl, sym, ap, subst, _∙_}
 use mathlib.Core.Bool.{Bool, true, false, not, _&&_, false≢true}
-use mathlib.Core.Logic.{_≢_, _⊎_, inl, inr, ⊎-map}
+use mathlib.Core.Logic.{_≢_, _↔_, _⊎_, inl, inr, ⊎-map}
 use native.Mathlib.Omega.{arith}
 use lib.Dec.{leb, ltb, eqb}
 use borrow.Author.Tests.{le-leb, lt-leb, leb-true, leb-false, ltb-true, lt-ltb, eqb-true, not-true, not-false}
@@ -18,7 +18,12 @@ use Rattle.state_parts.specs.declared.state.State.{State}
 use Rattle.state_parts.specs.declared.state.Model.{Model}
 use Rattle.state_parts.specs.declared.state.Model.the-variants.{Off, On}
 use Rattle.log_event.specs.declared.Event.{Event}
-use Rattle.log_event.specs.declared.Event.the-variants.{PowerOn, Set, Write, TakeFlags, Observe, Service, Reset, PowerOnResistors}
+use Rattle.log_event.specs.declared.Event.the-variants.{PowerOn, Set, Write, TakeFlags, Observe, Service, Reset, PowerOnResistors, WriteRun, ReadFlags}
+use Rattle.log_raw.specs.Raw.{byteOf, hasSpelling}
+use Rattle.log_raw.specs.Struct.{rawOf}
+use Rattle.log_raw.specs.declared.RawBytes.{RawBytes}
+use Rattle.report_registers.specs.Reads.{flagRegister}
+use Rattle.state_runs.specs.Runs.{halves, illegalFrequency, badRun, writtenRun, writeRunOf}
 use Rattle.state_settings.specs.Ranges.{lastSetting, knownSetting, mayHold}
 use Rattle.state_valid.specs.Holds.{stateOk}
 use Rattle.step_turns.specs.Ranges.{profileInRange, sampleInRange, resistorsInRange}
@@ -31,11 +36,13 @@ use Rattle.state_registers.specs.Writes.{knownAddress, writtenTo, writeOf}
 use Rattle.state_registers.proofs.Order.{address-first, then-byte, then-frequency}
 use Rattle.step_kinds.specs.Changes.{Changed}
 use Rattle.step_kinds.specs.Finish.{finishOf}
-use Rattle.step_kinds.specs.Plain.{afterWrite, setOf, writtenOf}
+use Rattle.step_kinds.specs.Plain.{afterWrite, setOf, writtenOf, afterRun, runFrom, readFlagsOf}
 use Rattle.step_event.specs.Steps.{observeOf, followedOf, movedOf, firstOf, changeOf, closedBy, turnedBy, stepOf}
 use Rattle.laws_step.specs.Ranged.{Among}
-use Rattle.laws_step.specs.Rows.{ResistorsIn, by-codes, by-resistors, Row, bad-field, bad-profile, bad-resistors, bad-byte, bad-sample, not-powered, too-far, no-setting, bad-value, no-address, bad-frequency}
+use Rattle.laws_step.specs.Rows.{ResistorsIn, by-codes, by-resistors, Row, bad-field, bad-profile, bad-resistors, bad-byte, bad-sample, no-spelling, not-powered, too-far, no-setting, bad-value, run-value, no-address, run-outside, no-flags, bad-frequency, run-frequency, run-half}
 use Rattle.laws_step.specs.Theorems.{EachGiven, NumberKnown}
+use Rattle.laws_step.specs.RunRows.{Spelled, InMap, HasHalf, NoFrequency, Unheld}
+use Rattle.laws_step.proofs.RunRows.{spelled-is, inside-is, half-is, frequency-is, unheld-is, flags-at}
 use Rattle.laws_step.proofs.InRanges.{outside, refuted, failed, among, profile-in, resistors-in, sample-in, value-in, bad-frequency-is}
 
 -- a change is an accepted event's, or a row gives its number
@@ -99,6 +106,26 @@ module _ (s : State) (ok : stateOk s ≡ true) where
       tests (On s) (Observe x) 7 (ltb 3600000 ms) _ (λ far. too-far s x ok (sample-in x .0 h) (ltb-true 3600000 ms far)) (λ _. inl refl)
   observes x false h = inr (bad-sample s x (outside (sampleInRange x) (sample-in x) h))
 
+  runs : (first : ℕ) (raw : RawBytes) → Says (On s) (WriteRun first raw) (runFrom s first (rawOf raw))
+  unfolding runFrom writeRunOf
+  runs first raw =
+      by (hasSpelling (rawOf raw)) (leb (first + raw .length) 39) (halves (s .profile) first (raw .length)) (illegalFrequency (byteOf (rawOf raw)) first (raw .length) (s .profile)) (badRun (byteOf (rawOf raw)) first (raw .length) (s .profile))
+      (spelled-is raw) (inside-is first raw) (half-is (s .profile) first raw) (frequency-is (s .profile) first raw) (unheld-is (s .profile) first raw)
+    where
+      by : (a b c d f : Bool) → (a ≡ true) ↔ Spelled raw → (b ≡ true) ↔ InMap first raw → (c ≡ true) ↔ HasHalf first raw → (d ≡ true) ↔ NoFrequency first raw → (f ≡ true) ↔ Unheld (s .profile) first raw
+          → Says (On s) (WriteRun first raw) (afterRun (pick (not a) (refused 5) (pick (not b) (refused 10) (pick c (refused 15) (pick d (refused 11) (pick f (refused 9) (accepted (writtenRun s first (rawOf raw)))))))) first (rawOf raw))
+      by false b c d f ea eb ec ed ef = inr (no-spelling s first raw (outside false ea refl))
+      by true false c d f ea eb ec ed ef = inr (run-outside s first raw ok (ea .0 refl) (outside false eb refl))
+      by true true true d f ea eb ec ed ef = inr (run-half s first raw ok (ea .0 refl) (eb .0 refl) (ec .0 refl))
+      by true true false true f ea eb ec ed ef = inr (run-frequency s first raw ok (ea .0 refl) (eb .0 refl) (outside false ec refl) (ed .0 refl))
+      by true true false false true ea eb ec ed ef = inr (run-value s first raw ok (ea .0 refl) (eb .0 refl) (outside false ec refl) (outside false ed refl) (ef .0 refl))
+      by true true false false false ea eb ec ed ef = inl refl
+
+  reads : (address : ℕ) → Says (On s) (ReadFlags address) (readFlagsOf s address)
+  unfolding readFlagsOf
+  reads address =
+      tests (On s) (ReadFlags address) 10 (not (flagRegister (s .profile) address)) _ (λ out. no-flags s address ok (refuted (flagRegister (s .profile) address) (flags-at (s .profile) address) out)) (λ _. inl refl)
+
   moves : (e : Event) → Says (On s) e (movedOf s (turnOf e))
   unfolding movedOf followedOf turnOf
   moves (PowerOn p) = powers (On s) (movedOf s) (λ q. refl) refl p
@@ -109,6 +136,8 @@ module _ (s : State) (ok : stateOk s ≡ true) where
   moves Service = inl refl
   moves Reset = inl refl
   moves (PowerOnResistors r) = solders (On s) (movedOf s) (λ q. refl) refl r
+  moves (WriteRun first raw) = runs first raw
+  moves (ReadFlags address) = reads address
 
 -- 6 comes before an observation's 5
 not-yet : (x : SpelledSample) (t : Bool) → Says Off (Observe x) (firstOf (pick t (Follows (later.Observe (heldSample x))) FollowsOutside))
@@ -126,6 +155,8 @@ first (Observe x) = not-yet x (sampleInRange x)
 first Service = inr (not-powered Service (elim [ ]))
 first Reset = inr (not-powered Reset (elim [ ]))
 first (PowerOnResistors r) = solders Off firstOf (λ q. refl) refl r
+first (WriteRun address raw) = inr (not-powered (WriteRun address raw) (elim [ ]))
+first (ReadFlags address) = inr (not-powered (ReadFlags address) (elim [ ]))
 
 tells : (m : Model) (e : Event) → Says m e (changeOf m (turnOf e))
 unfolding changeOf
@@ -158,7 +189,7 @@ outside-range r out =
     ∙ ap (λ (t : Bool). pick t (Opens (heldProfile p)) OpensOutside) (failed (resistorsInRange r && profileInRange p) (resistors-in r) out)
 
 rows-give : {n : ℕ} {m : Model} {e : Event} → Row n m e → answerNumber (changeOf m (turnOf e)) ≡ n
-unfolding changeOf turnOf movedOf followedOf firstOf writtenOf observeOf setOf
+unfolding changeOf turnOf movedOf followedOf firstOf writtenOf observeOf setOf runFrom writeRunOf readFlagsOf
 rows-give (bad-field s e bad) = simp (failed (stateOk s) (λ k. k, λ k. k) bad)
 rows-give (bad-profile Off p out) = simp (failed (profileInRange p) (profile-in p) out)
 rows-give (bad-profile (On s) p out) = by-test (stateOk s) 5 (movedOf s (turnOf (PowerOn p))) (simp (failed (profileInRange p) (profile-in p) out))
@@ -179,12 +210,24 @@ rows-give (not-powered (Observe x) other) = either (sampleInRange x)
 rows-give (not-powered Service other) = refl
 rows-give (not-powered Reset other) = refl
 rows-give (not-powered (PowerOnResistors r) other) = absurd (other (by-resistors r))
+rows-give (not-powered (WriteRun address raw) other) = refl
+rows-give (not-powered (ReadFlags address) other) = refl
 rows-give (too-far s x ok fits far) = simp (ok, sample-in x .1 fits, lt-ltb 3600000 (elapsedOf (s .sample .stamp) (x .stamp)) far)
 rows-give (no-setting s number value ok out) = simp (ok, failed (knownSetting (s .profile) number) (among number 1 lastSetting) out)
 rows-give (bad-value s number value ok known out) =
     simp (ok, among number 1 lastSetting .1 known, failed (mayHold (s .profile) number value) (value-in (s .profile) number value known) out)
 rows-give (no-address s address byte ok out) = simp (ok, address-first s address byte (failed (knownAddress address) (among address 0x15 0x1C) out))
 rows-give (bad-frequency s byte ok small bad) = simp (ok, then-frequency s 0x16 byte refl (le-leb byte 255 small) (bad-frequency-is (s .profile) byte .1 bad))
+
+rows-give (no-spelling s first raw out) = by-test (stateOk s) 5 (runFrom s first (rawOf raw)) (simp (failed (hasSpelling (rawOf raw)) (spelled-is raw) out))
+rows-give (run-outside s first raw ok spelled out) = simp (ok, spelled-is raw .1 spelled, failed (leb (first + raw .length) 39) (inside-is first raw) out)
+rows-give (run-half s first raw ok spelled inside half) = simp (ok, spelled-is raw .1 spelled, inside-is first raw .1 inside, half-is (s .profile) first raw .1 half)
+rows-give (run-frequency s first raw ok spelled inside whole bad) =
+    simp (ok, spelled-is raw .1 spelled, inside-is first raw .1 inside, failed (halves (s .profile) first (raw .length)) (half-is (s .profile) first raw) whole, frequency-is (s .profile) first raw .1 bad)
+rows-give (run-value s first raw ok spelled inside whole legal bad) =
+    simp (ok, spelled-is raw .1 spelled, inside-is first raw .1 inside, failed (halves (s .profile) first (raw .length)) (half-is (s .profile) first raw) whole,
+    failed (illegalFrequency (byteOf (rawOf raw)) first (raw .length) (s .profile)) (frequency-is (s .profile) first raw) legal, unheld-is (s .profile) first raw .1 bad)
+rows-give (no-flags s address ok out) = simp (ok, failed (flagRegister (s .profile) address) (flags-at (s .profile) address) out)
 
 -- the same of the step
 abbrev SaysStep : Model → Event → ℕ → Type 0
@@ -200,18 +243,24 @@ each-given n some m e = (λ given. by (tells-step m e) given, λ row. step-numbe
     by (inl none) given = absurd (omega arith)
     by (inr row) given = subst (λ (k : ℕ). Row k m e) given row
 
-known : {n : ℕ} {m : Model} {e : Event} → Row n m e → Among n 5 11
-known (bad-field s e bad) = (omega arith, omega arith)
-known (bad-profile m p out) = (omega arith, omega arith)
-known (bad-resistors m r out) = (omega arith, omega arith)
-known (bad-byte s address byte among large) = (omega arith, omega arith)
-known (bad-sample s x out) = (omega arith, omega arith)
-known (not-powered e other) = (omega arith, omega arith)
-known (too-far s x ok fits far) = (omega arith, omega arith)
-known (no-setting s number value ok out) = (omega arith, omega arith)
-known (bad-value s number value ok among out) = (omega arith, omega arith)
-known (no-address s address byte ok out) = (omega arith, omega arith)
-known (bad-frequency s byte ok small bad) = (omega arith, omega arith)
+known : {n : ℕ} {m : Model} {e : Event} → Row n m e → Among n 5 11 ⊎ (n ≡ 15)
+known (bad-field s e bad) = inl (omega arith, omega arith)
+known (bad-profile m p out) = inl (omega arith, omega arith)
+known (bad-resistors m r out) = inl (omega arith, omega arith)
+known (bad-byte s address byte among large) = inl (omega arith, omega arith)
+known (bad-sample s x out) = inl (omega arith, omega arith)
+known (not-powered e other) = inl (omega arith, omega arith)
+known (too-far s x ok fits far) = inl (omega arith, omega arith)
+known (no-setting s number value ok out) = inl (omega arith, omega arith)
+known (bad-value s number value ok among out) = inl (omega arith, omega arith)
+known (no-address s address byte ok out) = inl (omega arith, omega arith)
+known (bad-frequency s byte ok small bad) = inl (omega arith, omega arith)
+known (no-spelling s first raw out) = inl (omega arith, omega arith)
+known (run-value s first raw ok spelled inside whole legal bad) = inl (omega arith, omega arith)
+known (run-outside s first raw ok spelled out) = inl (omega arith, omega arith)
+known (no-flags s address ok out) = inl (omega arith, omega arith)
+known (run-frequency s first raw ok spelled inside whole bad) = inl (omega arith, omega arith)
+known (run-half s first raw ok spelled inside half) = inr refl
 
 pub number-known : NumberKnown
 number-known m e = ⊎-map (λ none. none) known (tells-step m e)

@@ -12,6 +12,7 @@ use Rattle.log_raw.specs.Raw.{byteOf, hasSpelling}
 use Rattle.log_raw.specs.Struct.{rawOf}
 use Rattle.log_raw.specs.declared.RawBytes.{RawBytes}
 use Rattle.log_raw.proofs.Soundness.{spelling-told}
+use Rattle.report_registers.specs.Reads.{flagRegister}
 use Rattle.state_parts.specs.declared.profile.Profile.{Profile}
 use Rattle.state_settings.specs.Ranges.{lastSetting, mayHold}
 use Rattle.state_table.specs.Rows.{Field, fields, fsw, digitOf, frequencyOk}
@@ -141,3 +142,6 @@ unheld-is p first raw = (forth, back)
           there = written-is first raw f .1 (u .there);
           bad = subst (λ (a : Access). badBy p a code ≡ true) (sym (u .setting)) (ap not unfit);
         })
+
+pub flags-at : (p : Profile) (address : ℕ) → (flagRegister p address ≡ true) ↔ ((address ≡ 0x20) ⊎ (address ≡ 0x21))
+flags-at p address = either-is (eqb address 0x20) (eqb address 0x21) (eqb-true address 0x20, eq-eqb address 0x20) (eqb-true address 0x21, eq-eqb address 0x21)

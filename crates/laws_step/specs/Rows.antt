@@ -1,4 +1,4 @@
--- 01, "Refusal numbers | Given exactly when": the rows that a step can give, as statements. "Model order: 6, 10, 5, 11 for writes; 6, 8, 9 for sets; 6, 5, 7 for observations":
+-- 01, "Refusal numbers | Given exactly when", and 02: the rows that a step can give, as statements. "Model order: 6, 10, 5, 11 for writes; 6, 8, 9 for sets; 6, 5, 7 for observations":
 -- a row says too that no earlier one of its order holds.
 use Prim.Native.Nat.{ℕ, _≤_, _<_}
 use mathlib.Core.Path.{_≡_}
@@ -12,7 +12,8 @@ use Rattle.state_parts.specs.declared.state.State.{State}
 use Rattle.state_parts.specs.declared.state.Model.{Model}
 use Rattle.state_parts.specs.declared.state.Model.the-variants.{Off, On}
 use Rattle.log_event.specs.declared.Event.{Event}
-use Rattle.log_event.specs.declared.Event.the-variants.{PowerOn, Set, Write, Observe, PowerOnResistors}
+use Rattle.log_raw.specs.declared.RawBytes.{RawBytes}
+use Rattle.log_event.specs.declared.Event.the-variants.{PowerOn, Set, Write, Observe, PowerOnResistors, WriteRun, ReadFlags}
 use Rattle.log_event.specs.declared.spelled.SpelledProfile.{SpelledProfile}
 use Rattle.log_event.specs.declared.spelled.SpelledResistors.{SpelledResistors}
 use Rattle.log_event.specs.declared.spelled.SpelledSample.{SpelledSample}
@@ -20,6 +21,7 @@ use Rattle.state_table.specs.Rows.{digitOf, fsw}
 use Rattle.state_settings.specs.Ranges.{lastSetting}
 use Rattle.state_valid.specs.Holds.{stateOk}
 use Rattle.laws_step.specs.Ranged.{Among, ValueIn}
+use Rattle.laws_step.specs.RunRows.{Spelled, InMap, HasHalf, NoFrequency, Unheld}
 
 -- "1 power-on | cell, vchg, ichg codes 0-7; ILIM ohms 0-33,000; stamp; cell ceiling 4,350-4,714; trickle, precharge, fast limits and watchdog period in seconds, 0-172,800"
 pub record ProfileIn (p : SpelledProfile) : Type 0 where
@@ -65,6 +67,8 @@ pub data Row : ℕ → Model → Event → Type 0 where
   bad-resistors : (m : Model) (r : SpelledResistors) → ¬ ResistorsIn r → Row 5 m (PowerOnResistors r)
   bad-byte : (s : State) (address byte : ℕ) → Among address 0x15 0x1C → 255 < byte → Row 5 (On s) (Write address byte)
   bad-sample : (s : State) (x : SpelledSample) → ¬ SampleIn x → Row 5 (On s) (Observe x)
+  -- 02, R-3: "has no spelling: the writer gives 5, and so does the model, after 6"
+  no-spelling : (s : State) (first : ℕ) (raw : RawBytes) → ¬ Spelled raw → Row 5 (On s) (WriteRun first raw)
   -- 6: "any kind but a power-on's, before a power-on"
   not-powered : (e : Event) → ¬ PowersOn e → Row 6 Off e
   -- 7: "stamp more than 3,600,000 ms ahead"
@@ -73,7 +77,16 @@ pub data Row : ℕ → Model → Event → Type 0 where
   no-setting : (s : State) (number value : ℕ) → stateOk s ≡ true → ¬ Among number 1 lastSetting → Row 8 (On s) (Set number value)
   -- 9: "setting value outside its range or off its step"
   bad-value : (s : State) (number value : ℕ) → stateOk s ≡ true → Among number 1 lastSetting → ¬ ValueIn (s .profile) number value → Row 9 (On s) (Set number value)
+  -- R-3: "a field value that its setting can't hold is 9, last"
+  run-value : (s : State) (first : ℕ) (raw : RawBytes) → stateOk s ≡ true → Spelled raw → InMap first raw → ¬ HasHalf first raw → ¬ NoFrequency first raw → Unheld (s .profile) first raw
+      → Row 9 (On s) (WriteRun first raw)
   -- 10: "address not 0x15-0x1C"
   no-address : (s : State) (address byte : ℕ) → stateOk s ≡ true → ¬ Among address 0x15 0x1C → Row 10 (On s) (Write address byte)
+  -- R-3: "a run touching an address outside the map, or kind 14 on no flag register, is 10"
+  run-outside : (s : State) (first : ℕ) (raw : RawBytes) → stateOk s ≡ true → Spelled raw → ¬ InMap first raw → Row 10 (On s) (WriteRun first raw)
+  no-flags : (s : State) (address : ℕ) → stateOk s ≡ true → ¬ ((address ≡ 0x20) ⊎ (address ≡ 0x21)) → Row 10 (On s) (ReadFlags address)
   -- 11: "FSW (0x16 bits 2:0) written 0 or 7"
   bad-frequency : (s : State) (byte : ℕ) → stateOk s ≡ true → byte ≤ 255 → (digitOf fsw byte ≡ 0) ⊎ (digitOf fsw byte ≡ 7) → Row 11 (On s) (Write (fsw .address) byte)
+  run-frequency : (s : State) (first : ℕ) (raw : RawBytes) → stateOk s ≡ true → Spelled raw → InMap first raw → ¬ HasHalf first raw → NoFrequency first raw → Row 11 (On s) (WriteRun first raw)
+  -- 15: "half of a sixteen-bit register, after 10, then 11"
+  run-half : (s : State) (first : ℕ) (raw : RawBytes) → stateOk s ≡ true → Spelled raw → InMap first raw → HasHalf first raw → Row 15 (On s) (WriteRun first raw)

@@ -29,9 +29,9 @@ Given n = (m : Model) (e : Event) → (stepOf m e .number ≡ n) ↔ Row n m e
 abbrev pub EachGiven : Type 0
 EachGiven = (n : ℕ) → 1 ≤ n → Given n
 
--- a step gives 0 or one of 5 to 11
+-- a step gives 0, one of 5 to 11, or 15
 abbrev pub NumberKnown : Type 0
-NumberKnown = (m : Model) (e : Event) → (stepOf m e .number ≡ 0) ⊎ Among (stepOf m e .number) 5 11
+NumberKnown = (m : Model) (e : Event) → (stepOf m e .number ≡ 0) ⊎ (Among (stepOf m e .number) 5 11 ⊎ (stepOf m e .number ≡ 15))
 
 -- "A limit of s seconds is reached at 2,000s units; a limit 0 counts nothing." A stage's time as it was added, which nothing wraps or cuts.
 pub record StageFits (limit time : ℕ) : Type 0 where

@@ -13,7 +13,7 @@ use Rattle.step_turns.specs.Begins.{byCodes}
 use Rattle.step_turns.specs.Turns.{turnOf}
 use Rattle.step_turns.specs.Promises.{LaterFits}
 use Rattle.step_turns.specs.declared.later.Later.{Later}
-use Rattle.step_turns.specs.declared.later.Later.the-variants.{Set, Write, TakeFlags, Observe, Service, Reset}
+use Rattle.step_turns.specs.declared.later.Later.the-variants.{Set, Write, TakeFlags, Observe, Service, Reset, WriteRun, ReadFlags}
 use Rattle.step_turns.specs.declared.turn.Turn.the-variants.{Opens, Follows}
 use Rattle.laws_account.specs.History.{Run, powered, _▸_}
 use Rattle.laws_account.specs.Refused.{Past, none, some, refusalIn, nextBy, nextOf, pastOf}
@@ -30,6 +30,8 @@ eventFor TakeFlags = event.TakeFlags
 eventFor (Observe x) = event.Observe (spelledSample x)
 eventFor Service = event.Service
 eventFor Reset = event.Reset
+eventFor (WriteRun first raw) = event.WriteRun first raw
+eventFor (ReadFlags address) = event.ReadFlags address
 
 opens : (p : Profile) → profileOk p ≡ true → turnOf (event.PowerOn (byCodes p)) ≡ Opens p
 unfolding turnOf profileInRange profileOk
@@ -43,6 +45,8 @@ follows TakeFlags h = refl
 follows (Observe x) h = rw h
 follows Service h = refl
 follows Reset h = refl
+follows (WriteRun first raw) h = refl
+follows (ReadFlags address) h = refl
 
 past-more : (es : List Event) (h : Past) (e : Event) → pastOf h (es ++ (e ∷ [])) ≡ nextOf (pastOf h es) e
 unfolding pastOf

@@ -45,6 +45,8 @@ saidOr other (event.Observe x) = other
 saidOr other event.Service = other
 saidOr other event.Reset = other
 saidOr other (event.PowerOnResistors r) = heldProfile (codedOf r)
+saidOr other (event.WriteRun address raw) = other
+saidOr other (event.ReadFlags address) = other
 
 is-said : (other : Profile) (e : Event) (p : Profile) → Begins e p → saidOr other e ≡ p
 is-said other _ _ (coded p) = refl
@@ -109,6 +111,8 @@ said (event.Observe x) p e = either (sampleInRange x) e
     either false e = closed _ p refl e
 said event.Service p e = closed _ p refl e
 said event.Reset p e = closed _ p refl e
+said (event.WriteRun address raw) p e = closed _ p refl e
+said (event.ReadFlags address) p e = closed _ p refl e
 said (event.PowerOnResistors r) p e =
     same (event.PowerOnResistors r) (heldProfile (codedOf r)) p (by-its-resistors r) e
 

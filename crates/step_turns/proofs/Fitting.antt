@@ -45,3 +45,5 @@ every-turn-fits (event.Observe x) = observes-by x (sampleInRange x) (sample-held
 every-turn-fits event.Service = refl
 every-turn-fits event.Reset = refl
 every-turn-fits (event.PowerOnResistors r) = within-by (opensWith (codedOf r)) (resistorsInRange r) (opens-by (codedOf r) (profileInRange (codedOf r)) (profile-held (codedOf r)))
+every-turn-fits (event.WriteRun address raw) = refl
+every-turn-fits (event.ReadFlags address) = refl

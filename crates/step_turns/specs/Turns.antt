@@ -9,7 +9,7 @@ use Rattle.state_parts.specs.declared.sample.Sample.{Sample}
 use Rattle.step_turns.specs.Ranges.{profileInRange, sampleInRange, resistorsInRange}
 use Rattle.step_turns.specs.Coded.{codedOf}
 use Rattle.step_turns.specs.declared.later.Later.{Later}
-use Rattle.step_turns.specs.declared.later.Later.the-variants.{Set, Write, TakeFlags, Observe, Service, Reset}
+use Rattle.step_turns.specs.declared.later.Later.the-variants.{Set, Write, TakeFlags, Observe, Service, Reset, WriteRun, ReadFlags}
 use Rattle.step_turns.specs.declared.turn.Turn.{Turn}
 use Rattle.step_turns.specs.declared.turn.Turn.the-variants.{Opens, Follows, OpensOutside, FollowsOutside}
 
@@ -47,3 +47,6 @@ turnOf event.Service = Follows Service
 turnOf event.Reset = Follows Reset
 -- 02, R-5: "Power-on gets a second event, kind 9 .. From there it acts as kind 1 with those codes"
 turnOf (event.PowerOnResistors r) = pick (resistorsInRange r) (opensWith (codedOf r)) OpensOutside
+-- 02, R-3: "Write runs are kind 8"; a read of a flag register "is an event, kind 14 with the address"
+turnOf (event.WriteRun address raw) = Follows (WriteRun address raw)
+turnOf (event.ReadFlags address) = Follows (ReadFlags address)

@@ -86,5 +86,7 @@ pub fn turn_of(e: Event) -> Turn
                 Turn::OpensOutside
             }
         }
+        Event::WriteRun(address, raw) => Turn::Follows(Later::WriteRun(address, raw)),
+        Event::ReadFlags(address) => Turn::Follows(Later::ReadFlags(address)),
     }
 }
