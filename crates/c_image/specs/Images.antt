@@ -22,7 +22,7 @@ zeros (suc k) = 0 ∷ zeros k
 
 -- "CHEUKDANE_FORMAT": the number of this list of numbers, and of the rules that make them: a landing that changes the list, or what a log means, gives it another. It is never 0.
 abbrev pub imageFormat : ℕ
-imageFormat = 5
+imageFormat = 6
 
 -- "55 words. Word 0 is 0 before a power-on, and then all other words are 0 too; after it, it is the format's number, CHEUKDANE_FORMAT, and the state's numbers follow".
 abbrev pub modelNumbers : Model → List ℕ

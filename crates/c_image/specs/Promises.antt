@@ -46,6 +46,6 @@ OffIsZeros = imageOf Off ≡ zeros 220
 abbrev pub OtherFormat : Type 0
 OtherFormat = (bytes : List ℕ) → wordAt bytes 0 ≢ 0 → wordAt bytes 0 ≢ imageFormat → modelIn bytes ≡ refused 5
 
--- "an older one too": format 1 was the base's, whose recharge point was another, so that a log had led to other states (02, R-1); format 2 told a refusal's place otherwise (R-4); format 3 had no kind 9 (R-5); format 4 held eight registers (R-3)
+-- "an older one too": format 1 was the base's, whose recharge point was another, so that a log had led to other states (02, R-1); format 2 told a refusal's place otherwise (R-4); format 3 had no kind 9 (R-5); format 4 held eight registers, and format 5 had no kinds 8 and 14 (R-3)
 abbrev pub OlderFormat : Type 0
-OlderFormat = (bytes : List ℕ) → wordAt bytes 0 ≢ 0 → wordAt bytes 0 < 5 → modelIn bytes ≡ refused 5
+OlderFormat = (bytes : List ℕ) → wordAt bytes 0 ≢ 0 → wordAt bytes 0 < 6 → modelIn bytes ≡ refused 5

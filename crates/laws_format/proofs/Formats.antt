@@ -18,13 +18,13 @@ use Rattle.log_event.specs.Items.{Item, num, raw, Fits, AllFit, sound, allSound
 use Rattle.log_event.specs.Kinds.{kindByte}
 use Rattle.log_event.specs.Events.{kindOf, itemsOf}
 use Rattle.log_event.specs.declared.Event.{Event}
-use Rattle.log_event.specs.declared.Event.the-variants.{PowerOn, Set, Write, TakeFlags, Observe, Service, Reset, PowerOnResistors}
+use Rattle.log_event.specs.declared.Event.the-variants.{PowerOn, Set, Write, TakeFlags, Observe, Service, Reset, WriteRun, PowerOnResistors, ReadFlags}
 use Rattle.log_record.specs.Items.{spellItem, spellItems}
 use Rattle.log_record.specs.Records.{spellEvent}
 use Rattle.log_record.specs.Promises.{Spellable}
 use Rattle.log_record.proofs.ItemLaws.{all-sound}
 use Rattle.log_record.proofs.RecordLaws.{spellings-differ}
-use Rattle.laws_format.specs.Format.{Groups, last, more, largest, Stand, none, one, run, Ibat, from-zero, below-zero, Listed, power-on, set, write, take-flags, observe, service, reset, power-on-resistors, Spells, kind-then-numbers, AllSmall, AllSpelt, InRange, Signed32, SpelledOnce}
+use Rattle.laws_format.specs.Format.{Groups, last, more, largest, Stand, none, one, run, Ibat, from-zero, below-zero, Listed, power-on, set, write, take-flags, observe, service, reset, write-run, power-on-resistors, read-flags, Spells, kind-then-numbers, AllSmall, AllSpelt, InRange, Signed32, SpelledOnce}
 use Rattle.laws_format.proofs.Raws.{spelled-raw, holds-counted}
 
 -- ---- groups
@@ -123,7 +123,9 @@ listed-is take-flags = (refl, refl)
 listed-is (observe s ibat i) = (refl, rw (ibat-is i))
 listed-is service = (refl, refl)
 listed-is reset = (refl, refl)
+listed-is (write-run address held) = (refl, refl)
 listed-is (power-on-resistors r) = (refl, refl)
+listed-is (read-flags address) = (refl, refl)
 
 pub listed : (e : Event) → Listed e (kindByte (kindOf e)) (itemsOf e)
 listed (PowerOn p) = power-on p
@@ -133,7 +135,9 @@ listed TakeFlags = take-flags
 listed (Observe s) = observe s (loggedOf (s .ibat)) (ibat-logged (s .ibat))
 listed Service = service
 listed Reset = reset
+listed (WriteRun address held) = write-run address held
 listed (PowerOnResistors r) = power-on-resistors r
+listed (ReadFlags address) = read-flags address
 
 -- ---- events
 pub spells-are : {e : Event} {bytes : List ℕ} → Spells e bytes → (bytes ≡ spellEvent e) × Spellable e

@@ -12,6 +12,7 @@ use Rattle.log_number.proofs.Strings.{bytes-each}
 use Rattle.log_event.specs.Events.{kindOf, eventOf}
 use Rattle.log_event.specs.Kinds.{kindByte}
 use Rattle.log_event.specs.declared.Event.the-variants.{Service}
+use Rattle.log_raw.specs.Raw.{readRaw}
 use Rattle.log_record.specs.Items.{spellItems, readItems}
 use Rattle.log_record.specs.Records.{Met, met, refused, end, spellEvent, eventWritten, eventPut, readRecord, recordAt}
 use Rattle.laws_format.specs.Wrong.{readsFirst, tellsStart, StartRefuted, FormatRefuted}
@@ -36,11 +37,14 @@ cut-off-there = bytes-each (0x02 ∷ []) (search needs)
 zero-group-there : Bytes (0x02 ∷ 0x80 ∷ 0x00 ∷ [])
 zero-group-there = bytes-each (0x02 ∷ 0x80 ∷ 0x00 ∷ []) (search needs)
 
+no-bytes-there : Bytes (0x08 ∷ 0x1B ∷ 0x00 ∷ [])
+no-bytes-there = bytes-each (0x08 ∷ 0x1B ∷ 0x00 ∷ []) (search needs)
+
 five-high-there : Bytes (0x02 ∷ 0x80 ∷ 0x80 ∷ 0x80 ∷ 0x80 ∷ 0x80 ∷ [])
 five-high-there = bytes-each (0x02 ∷ 0x80 ∷ 0x80 ∷ 0x80 ∷ 0x80 ∷ 0x80 ∷ []) (search needs)
 
 pub start-refuted : StartRefuted
-unfolding recordAt readRecord readItems readNumber readGroups
+unfolding recordAt readRecord readItems readRaw readNumber readGroups
 start-refuted = record {
   -- the log 02, of one byte: 0 is not its end
   one = λ d. let z : _≡_ {A = ℕ} 0 1 = d .ends (0x02 ∷ []) cut-off-there 0 1 0 refl .0 refl in omega arith;
@@ -48,6 +52,8 @@ start-refuted = record {
   two = λ d. let z : _≡_ {A = ℕ} 2 0 = d .zero (0x02 ∷ 0x80 ∷ 0x00 ∷ []) zero-group-there 0 0 refl .0 in omega arith;
   -- the log 02 80 80 80 80 80: no number has its fifth byte at 0
   three = λ d. omega (arith, d .fifth (0x02 ∷ 0x80 ∷ 0x80 ∷ 0x80 ∷ 0x80 ∷ 0x80 ∷ []) five-high-there 0 0 refl .2);
+  -- the log 08 1B 00: no length starts at 0
+  five = λ d. omega (arith, d .first (0x08 ∷ 0x1B ∷ 0x00 ∷ []) no-bytes-there 0 0 refl .starts .counts);
 }
 
 pub format-refuted : FormatRefuted
@@ -66,4 +72,5 @@ format-refuted = record {
   oneAtStart = λ d. start-refuted .one (format-decides (tellsStart 1) d);
   twoAtStart = λ d. start-refuted .two (format-decides (tellsStart 2) d);
   threeAtStart = λ d. start-refuted .three (format-decides (tellsStart 3) d);
+  fiveAtStart = λ d. start-refuted .five (format-decides (tellsStart 5) d);
 }

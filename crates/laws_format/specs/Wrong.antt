@@ -4,7 +4,7 @@ use lib.ListN.{length}
 use lib.Dec.{leb, eqb}
 use Rattle.base.specs.Pick.{pick}
 use Rattle.log_event.specs.declared.Event.{Event}
-use Rattle.log_event.specs.declared.Event.the-variants.{PowerOn, Set, Write, TakeFlags, Observe, Service, Reset, PowerOnResistors}
+use Rattle.log_event.specs.declared.Event.the-variants.{PowerOn, Set, Write, TakeFlags, Observe, Service, Reset, WriteRun, PowerOnResistors, ReadFlags}
 use Rattle.log_record.specs.Records.{Met, met, refused, end}
 use Rattle.laws_format.specs.Readers.{Reader, Writer, Reads, Writes}
 use Rattle.laws_format.specs.Ours.{ourRead, ourWrite}
@@ -19,7 +19,9 @@ swapped TakeFlags = TakeFlags
 swapped (Observe s) = Observe s
 swapped Service = Reset
 swapped Reset = Service
+swapped (WriteRun a b) = WriteRun a b
 swapped (PowerOnResistors r) = PowerOnResistors r
+swapped (ReadFlags a) = ReadFlags a
 
 -- what a reader answers, with another event or with another number for a refusal
 abbrev pub changed : (Event → Event) → (ℕ → ℕ) → Met → Met
@@ -61,11 +63,12 @@ startFor number at end = end
 abbrev pub tellsStart : ℕ → Reader
 tellsStart number bytes at = startFor number at (ourRead bytes at)
 
--- of 1, 2 and 3 the record's start isn't what decided it
+-- of 1, 2 and 3 the record's start isn't what decided it, and of 5 it isn't the length's first byte
 pub record StartRefuted : Type 0 where
   pub one : ¬ PlacesDecide (tellsStart 1)
   pub two : ¬ PlacesDecide (tellsStart 2)
   pub three : ¬ PlacesDecide (tellsStart 3)
+  pub five : ¬ PlacesDecide (tellsStart 5)
 
 pub record FormatRefuted : Type 0 where
   pub otherCode : ¬ Reads readsSwapped
@@ -76,3 +79,4 @@ pub record FormatRefuted : Type 0 where
   pub oneAtStart : ¬ Reads (tellsStart 1)
   pub twoAtStart : ¬ Reads (tellsStart 2)
   pub threeAtStart : ¬ Reads (tellsStart 3)
+  pub fiveAtStart : ¬ Reads (tellsStart 5)

@@ -218,15 +218,20 @@ rows-give (bad-value s number value ok known out) =
     simp (ok, among number 1 lastSetting .1 known, failed (mayHold (s .profile) number value) (value-in (s .profile) number value known) out)
 rows-give (no-address s address byte ok out) = simp (ok, address-first s address byte (failed (knownAddress address) (among address 0x15 0x1C) out))
 rows-give (bad-frequency s byte ok small bad) = simp (ok, then-frequency s 0x16 byte refl (le-leb byte 255 small) (bad-frequency-is (s .profile) byte .1 bad))
-
 rows-give (no-spelling s first raw out) = by-test (stateOk s) 5 (runFrom s first (rawOf raw)) (simp (failed (hasSpelling (rawOf raw)) (spelled-is raw) out))
 rows-give (run-outside s first raw ok spelled out) = simp (ok, spelled-is raw .1 spelled, failed (leb (first + raw .length) 39) (inside-is first raw) out)
 rows-give (run-half s first raw ok spelled inside half) = simp (ok, spelled-is raw .1 spelled, inside-is first raw .1 inside, half-is (s .profile) first raw .1 half)
 rows-give (run-frequency s first raw ok spelled inside whole bad) =
     simp (ok, spelled-is raw .1 spelled, inside-is first raw .1 inside, failed (halves (s .profile) first (raw .length)) (half-is (s .profile) first raw) whole, frequency-is (s .profile) first raw .1 bad)
 rows-give (run-value s first raw ok spelled inside whole legal bad) =
-    simp (ok, spelled-is raw .1 spelled, inside-is first raw .1 inside, failed (halves (s .profile) first (raw .length)) (half-is (s .profile) first raw) whole,
-    failed (illegalFrequency (byteOf (rawOf raw)) first (raw .length) (s .profile)) (frequency-is (s .profile) first raw) legal, unheld-is (s .profile) first raw .1 bad)
+    simp (
+      ok,
+      spelled-is raw .1 spelled,
+      inside-is first raw .1 inside,
+      failed (halves (s .profile) first (raw .length)) (half-is (s .profile) first raw) whole,
+      failed (illegalFrequency (byteOf (rawOf raw)) first (raw .length) (s .profile)) (frequency-is (s .profile) first raw) legal,
+      unheld-is (s .profile) first raw .1 bad,
+    )
 rows-give (no-flags s address ok out) = simp (ok, failed (flagRegister (s .profile) address) (flags-at (s .profile) address) out)
 
 -- the same of the step
