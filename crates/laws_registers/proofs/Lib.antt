@@ -1,0 +1,2 @@
+-- The laws of the crate `laws_registers`.
+pub mod Bytes

@@ -1,0 +1,2 @@
+-- The definitions of the crate `laws_registers`.
+pub mod Bytes
