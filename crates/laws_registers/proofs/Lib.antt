@@ -1,2 +1,10 @@
 -- The laws of the crate `laws_registers`.
 pub mod Bytes
+mod Folds
+mod Stores
+mod Places
+mod Digits
+mod Mates
+mod OneRegister
+pub mod ReadBytes
+pub mod Fields

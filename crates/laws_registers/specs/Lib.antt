@@ -1,2 +1,3 @@
 -- The definitions of the crate `laws_registers`.
 pub mod Bytes
+pub mod Fields
