@@ -8,3 +8,4 @@ mod Mates
 mod OneRegister
 pub mod ReadBytes
 pub mod Fields
+pub mod Flags

@@ -1,3 +1,4 @@
 -- The definitions of the crate `laws_registers`.
 pub mod Bytes
 pub mod Fields
+pub mod Flags

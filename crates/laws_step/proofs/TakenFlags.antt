@@ -26,7 +26,7 @@ use Rattle.step_event.proofs.Numbered.{some-number}
 use Rattle.laws_step.specs.Theorems.{StepSettles, TakesFlags, TakeFlagsAgain}
 
 -- settling reads no flags
-flagged-settles : (s : State) (f : ℕ) (observed : Bool) → settleOf (withFlags s f) observed ≡ withFlags (settleOf s observed) f
+pub flagged-settles : (s : State) (f : ℕ) (observed : Bool) → settleOf (withFlags s f) observed ≡ withFlags (settleOf s observed) f
 unfolding settleOf forcedOf settledOf testsOf
 flagged-settles s f observed = refl
 
@@ -48,7 +48,7 @@ step-settles m e s none on = by (comes m e) none on
 no-change : (n : ℕ) → not (eqb n n) ≡ false
 no-change n = simp (eq-eqb n n refl)
 
-abbrev noEdges : Edges
+abbrev pub noEdges : Edges
 noEdges = record {
   good = false;
   lost = false;
@@ -64,15 +64,15 @@ noEdges = record {
   limit = false;
 }
 
-no-edges : (s : Seen) → edgesOf s s ≡ noEdges
+pub no-edges : (s : Seen) → edgesOf s s ≡ noEdges
 unfolding edgesOf
 no-edges s = simp (not-and-self, no-change)
 
-merged-none : (f : ℕ) → merged f noEdges ≡ f
+pub merged-none : (f : ℕ) → merged f noEdges ≡ f
 unfolding merged flagsNumber
 merged-none f = or-zero-r f
 
-no-pulse : (masks : ℕ) → pulseOf noEdges masks ≡ false
+pub no-pulse : (masks : ℕ) → pulseOf noEdges masks ≡ false
 unfolding pulseOf
 no-pulse masks = refl
 
