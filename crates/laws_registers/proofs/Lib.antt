@@ -9,3 +9,4 @@ mod OneRegister
 pub mod ReadBytes
 pub mod Fields
 pub mod Flags
+pub mod Resets

@@ -2,3 +2,4 @@
 pub mod Bytes
 pub mod Fields
 pub mod Flags
+pub mod Resets
