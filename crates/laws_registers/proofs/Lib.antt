@@ -6,7 +6,9 @@ mod Places
 mod Digits
 mod Mates
 mod OneRegister
+mod Values
 pub mod ReadBytes
 pub mod Fields
 pub mod Flags
 pub mod Resets
+pub mod Alike

@@ -3,3 +3,4 @@ pub mod Bytes
 pub mod Fields
 pub mod Flags
 pub mod Resets
+pub mod Alike
