@@ -12,3 +12,4 @@ pub mod Fields
 pub mod Flags
 pub mod Resets
 pub mod Alike
+pub mod Splits
