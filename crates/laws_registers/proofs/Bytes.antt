@@ -15,6 +15,7 @@ use Rattle.log_raw.specs.Struct.{rawOf}
 use Rattle.log_raw.proofs.Packing.{byte-of-word}
 use Rattle.log_raw.proofs.Soundness.{spelling-told}
 use Rattle.state_parts.specs.declared.profile.Profile.{Profile}
+use Rattle.state_parts.specs.declared.registers.Registers.{Registers}
 use Rattle.state_parts.specs.declared.settings.Settings.{Settings}
 use Rattle.state_parts.specs.declared.state.State.{State}
 use Rattle.state_parts.specs.declared.state.Model.the-variants.{Off, On}
@@ -22,12 +23,33 @@ use Rattle.state_registers.specs.Writes.{writtenRegisters, writtenTo, writeOf}
 use Rattle.state_runs.specs.Bytes.{valueIn}
 use Rattle.state_runs.specs.Registers.{settingsTaken, badRegister, registerTaken}
 use Rattle.state_runs.specs.Runs.{outside, halves, badFrequency, badRun, keptRun, keptOf, withKept, writtenRun, runOf, resets, serves}
+use Rattle.state_runs.specs.declared.registers.Kept.{Kept}
 use Rattle.state_table.specs.Rows.{fields, fieldsOf, fsw, digitOf, frequencyOk}
 use Rattle.state_valid.specs.Holds.{stateOk}
 use Rattle.step_kinds.specs.Changes.{Changed}
 use Rattle.step_kinds.specs.Plain.{afterWrite, actedOf, afterRun, writtenOf, runFrom}
 use Rattle.step_event.specs.Steps.{closedBy, firstOf, followedOf, movedOf, changeOf, turnedBy}
 use Rattle.laws_registers.specs.Bytes.{OneByte, RunAsWrite, RunTurnsAsWrite}
+
+-- A run of one byte: the one register takes it, and is judged by it.
+module _ (raw : Raw) (given : OneByte raw) where
+  nothing-behind : byteOf raw 1 ≡ 0
+  nothing-behind = spelling-told .told raw (given .spelled) .rest 1 (let one = given .one in omega arith)
+
+  pub value-is : valueIn (byteOf raw) 0 ≡ byteOf raw 0
+  value-is = rw nothing-behind (omega arith)
+
+  module _ (p : Profile) (a : ℕ) where
+    pub byte-taken : (before : Registers) (k : Kept) → keptRun (byteOf raw) a (raw .count) p before k ≡ registerTaken p before a (byteOf raw 0) k
+    unfolding keptRun
+    byte-taken before k =
+        ap (λ (n : ℕ). keptRun (byteOf raw) a n p before k) (given .one) ∙ ap (λ (n : ℕ). registerTaken p before n (valueIn (byteOf raw) 0) k) (add-zero a)
+        ∙ ap (λ (n : ℕ). registerTaken p before a n k) value-is
+
+    pub byte-judged : badRun (byteOf raw) a (raw .count) p ≡ badRegister p a (byteOf raw 0)
+    unfolding badRun
+    byte-judged =
+        ap (λ (n : ℕ). badRun (byteOf raw) a n p) (given .one) ∙ ap (λ (n : ℕ). badRegister p n (valueIn (byteOf raw) 0)) (add-zero a) ∙ ap (badRegister p a) value-is
 
 -- What a run of one byte finds at such an address, whatever the byte.
 module _ (p : Profile) (a : ℕ) (low : 0x15 ≤ a) (high : a ≤ 0x1C) where
@@ -66,39 +88,25 @@ module _ (s : State) (a : ℕ) (low : 0x15 ≤ a) (high : a ≤ 0x1C) (raw : Raw
   abbrev byte : ℕ
   byte = byteOf raw 0
 
-  next : byteOf raw 1 ≡ 0
-  next = spelling-told .told raw (given .spelled) .rest 1 (let one = given .one in omega arith)
-
-  value-is : valueIn (byteOf raw) 0 ≡ byte
-  value-is = rw next (omega arith)
-
   small : byte ≤ 255
   small = rw (byte-of-word raw 0) (digit-small (getD (raw .words) 0 0))
     where
       digit-small : (n : ℕ) → n % 256 ≤ 255
       digit-small n = omega arith
 
-  -- the one register
   written : writtenRun s a raw ≡ writtenTo s a byte
-  unfolding writtenRun keptRun registerTaken writtenTo writtenRegisters
-  written =
-      ap (λ (n : ℕ). withKept s (keptRun (byteOf raw) a n p (s .registers) (keptOf s))) (given .one)
-      ∙ ap (λ (n : ℕ). withKept s (registerTaken p (s .registers) n (valueIn (byteOf raw) 0) (keptOf s))) (add-zero a)
-      ∙ ap (λ (n : ℕ). withKept s (registerTaken p (s .registers) a n (keptOf s))) value-is
-      ∙ simp (sets-nothing p a low high byte (s .settings))
+  unfolding writtenRun registerTaken writtenTo writtenRegisters
+  written = ap (withKept s) (byte-taken raw given p a (s .registers) (keptOf s)) ∙ simp (sets-nothing p a low high byte (s .settings))
 
   fine : badRun (byteOf raw) a (raw .count) p ≡ false
-  unfolding badRun
-  fine =
-      ap (λ (n : ℕ). badRun (byteOf raw) a n p) (given .one) ∙ ap (λ (n : ℕ). badRegister p n (valueIn (byteOf raw) 0)) (add-zero a)
-      ∙ never-bad p a low high (valueIn (byteOf raw) 0)
+  fine = byte-judged raw given p a ∙ never-bad p a low high byte
 
   as-write : runOf s a raw ≡ writeOf s a byte
   unfolding runOf writeOf
   as-write =
       let inside : outside a (raw .count) ≡ false = ap (outside a) (given .one) ∙ rw (le-leb (a + 1) 39 (omega arith)) refl in
       let whole : halves p a (raw .count) ≡ false = ap (halves p a) (given .one) ∙ is-whole p a low high in
-      let judged = ap (λ (n : ℕ). badFrequency (byteOf raw) a n p) (given .one) ∙ frequency p a low high (byteOf raw) next in
+      let judged = ap (λ (n : ℕ). badFrequency (byteOf raw) a n p) (given .one) ∙ frequency p a low high (byteOf raw) (nothing-behind raw given) in
       simp (given .spelled, inside, whole, judged, fine, written, le-leb 0x15 a low, le-leb a 0x1C high, le-leb byte 255 small)
 
   -- nothing acts behind it

@@ -12,17 +12,14 @@ use Rattle.base.specs.Told.{Told, accepted, refused}
 use Rattle.log_raw.specs.Raw.{Raw, byteOf}
 use Rattle.log_raw.specs.Struct.{rawOf}
 use Rattle.report_registers.specs.Reads.{codeBy, codeOf}
-use Rattle.state_fields.specs.Held.{fieldIn, fieldOf, takenBy}
+use Rattle.state_fields.specs.Held.{takenBy}
 use Rattle.state_fields.proofs.Fields.{field-mod}
-use Rattle.state_fields.proofs.Gathers.{nth, stored, gathered-each}
-use Rattle.state_fields.proofs.Sound.{own-fields}
-use Rattle.state_fields.proofs.Taken.{taken-gathered}
+use Rattle.state_fields.proofs.Gathers.{nth, stored}
 use Rattle.state_parts.specs.With.{withSettings}
 use Rattle.state_parts.specs.declared.profile.Profile.{Profile}
 use Rattle.state_parts.specs.declared.settings.Settings.{Settings}
 use Rattle.state_parts.specs.declared.state.State.{State}
 use Rattle.state_parts.specs.declared.state.Model.the-variants.{On}
-use Rattle.state_registers.proofs.Keeps.{parts-apart}
 use Rattle.state_registers.proofs.Said.{every-value-said}
 use Rattle.state_runs.specs.Bytes.{valueIn, within, codeIn}
 use Rattle.state_runs.specs.Registers.{settingBy, settingsTaken, badBy, badRegister, registerTaken}
@@ -47,24 +44,8 @@ use Rattle.laws_registers.proofs.Folds.{over-one}
 use Rattle.laws_registers.proofs.Mates.{mate, Alone, alone-at}
 use Rattle.laws_registers.proofs.OneRegister.{one-taken, one-judged}
 use Rattle.laws_registers.proofs.Places.{in-table, by-number, bits-apart, housed-at}
+use Rattle.laws_registers.proofs.Words.{stored-code, words-held}
 use Rattle.laws_registers.proofs.Stores.{store-held, store-held-after}
-
--- a stored field reads as it is held
-pub stored-code : (s : State) (g : Field) → stored g ≡ true → codeOf s g ≡ fieldOf g (s .registers)
-unfolding codeOf
-stored-code s g e = go (g .access) e
-  where
-    go : (x : Access) → isStored x ≡ true → codeBy x s g ≡ fieldOf g (s .registers)
-    go Reserved e = absurd (false≢true e)
-    go (Fixed x) e = absurd (false≢true e)
-    go (Status x) e = absurd (false≢true e)
-    go (Flag x y) e = absurd (false≢true e)
-    go Stored e = refl
-    go (Setting m k) e = absurd (false≢true e)
-    go (Mask x y) e = absurd (false≢true e)
-    go Counted e = absurd (false≢true e)
-    go (Pin x) e = absurd (false≢true e)
-    go (Acts x) e = absurd (false≢true e)
 
 -- REG_RST is the table's field 30
 reset-row : nth 30 ≡ regRst
@@ -207,19 +188,9 @@ module _ (s : State) (ok : stateOk s ≡ true) (i n step code : ℕ) (h : i < 14
   -- the stored fields are given what they hold
   words-stand : takenBy p a value (s .registers .words) ≡ s .registers .words
   words-stand =
-      let w = s .registers .words in
-      let sound = parts-apart p (s .registers) (apart s ok .registers) .words in
-      let old : Field → ℕ = λ g. fieldIn g w in
-      ap (takenBy p a value) (own-fields p w sound) ∙ taken-gathered p a value old
-      ∙ gathered-each p (λ (g : Field). pick (stored g && eqb (g .address) a) (digitOf g value) (old g)) old (λ j l st. kept j l st (eqb (nth j .address) a) refl)
-      ∙ sym (own-fields p w sound)
-    where
-      kept : (j : ℕ) → j < 147 → stored (nth j) ≡ true → (b : Bool) → eqb (nth j .address) a ≡ b
-          → pick (stored (nth j) && b) (digitOf (nth j) value) (fieldIn (nth j) (s .registers .words)) ≡ fieldIn (nth j) (s .registers .words)
-      kept j l st true q =
-          ap (λ (c : Bool). pick (c && true) (digitOf (nth j) value) (fieldIn (nth j) (s .registers .words))) st
-          ∙ other-code j l (not-own j st) (eqb-true (nth j .address) a q) ∙ ap (λ (x : ℕ). x % 2 ^ nth j .width) (stored-code s (nth j) st) ∙ field-mod (nth j) (s .registers)
-      kept j l st false q = ap (λ (c : Bool). pick (c && false) (digitOf (nth j) value) (fieldIn (nth j) (s .registers .words))) st
+      words-held s ok a value
+      (λ j l st there.
+      other-code j l (not-own j st) there ∙ ap (λ (x : ℕ). x % 2 ^ nth j .width) (stored-code s (nth j) st) ∙ field-mod (nth j) (s .registers))
 
   -- the run, refusal by refusal
   inside : outside a (raw .count) ≡ false

@@ -7,9 +7,12 @@ mod Digits
 mod Mates
 mod OneRegister
 mod Values
+mod Words
 pub mod ReadBytes
 pub mod Fields
 pub mod Flags
 pub mod Resets
 pub mod Alike
 pub mod Splits
+mod MaskBits
+pub mod Masks

@@ -5,3 +5,4 @@ pub mod Flags
 pub mod Resets
 pub mod Alike
 pub mod Splits
+pub mod Masks
