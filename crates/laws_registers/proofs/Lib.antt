@@ -7,6 +7,8 @@ mod Digits
 mod Mates
 mod OneRegister
 mod Values
+mod Gets
+mod HeldAfter
 mod Words
 pub mod ReadBytes
 pub mod Fields
@@ -16,3 +18,4 @@ pub mod Alike
 pub mod Splits
 mod MaskBits
 pub mod Masks
+pub mod ReadsBack

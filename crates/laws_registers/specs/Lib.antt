@@ -6,3 +6,4 @@ pub mod Resets
 pub mod Alike
 pub mod Splits
 pub mod Masks
+pub mod ReadsBack

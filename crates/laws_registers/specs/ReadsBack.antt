@@ -1,0 +1,35 @@
+-- What a run that isn't refused leaves, field by field: what was written, and nothing else.
+use Prim.Native.Nat.{ℕ, _-_, _*_}
+use mathlib.Core.Path.{_≡_}
+use mathlib.Core.Bool.{Bool, true, false, _&&_}
+use mathlib.Core.Logic.{_⊎_}
+use Rattle.base.specs.Pick.{pick}
+use Rattle.base.specs.Told.{accepted}
+use Rattle.log_raw.specs.Raw.{Raw, byteOf}
+use Rattle.state_fields.specs.Held.{fieldOf}
+use Rattle.state_parts.specs.declared.state.State.{State}
+use Rattle.state_registers.specs.Writes.{countTaken}
+use Rattle.state_settings.specs.Numbered.{heldOf}
+use Rattle.state_table.specs.Rows.{cellPin, isStored}
+use Rattle.state_table.specs.Packed.{fieldAt}
+use Rattle.state_table.specs.declared.Access.the-variants.{Setting}
+use Rattle.state_valid.specs.Holds.{stateOk}
+use Rattle.state_runs.specs.Bytes.{valueIn, within, codeIn}
+use Rattle.state_runs.specs.Runs.{runOf}
+
+-- "CELL_PIN takes a written count only if CELL_PIN_OVERRIDE stood before the write, the count is 1-7 and it differs": this run has such a count
+abbrev pub takesCount : State → ℕ → Raw → Bool
+takesCount s first raw = within first (raw .count) cellPin && countTaken (s .registers) (cellPin .address) (valueIn (byteOf raw) (cellPin .address - first))
+
+pub record LeavesAsWritten (s : State) (first : ℕ) (raw : Raw) (t : State) : Type 0 where
+  -- "other fields are only stored": each stored field of the run has its code, every other stands
+  pub stored : (i : ℕ) → isStored (fieldAt i .access) ≡ true
+      → fieldOf (fieldAt i) (t .registers) ≡ pick (within first (raw .count) (fieldAt i)) (codeIn (byteOf raw) first (fieldAt i)) (fieldOf (fieldAt i) (s .registers))
+  -- each field that is a setting has its code's value, every other stands; but VREG and VSYSMIN by the CELL_PIN rule, where a count is taken
+  pub settings : (i n step : ℕ) → fieldAt i .access ≡ Setting n step → (takesCount s first raw ≡ false) ⊎ ((n ≡ 1 → ⊥) × (n ≡ 6 → ⊥))
+      → heldOf (t .settings) n ≡ pick (within first (raw .count) (fieldAt i)) (codeIn (byteOf raw) first (fieldAt i) * step) (heldOf (s .settings) n)
+  -- the count
+  pub cells : t .registers .cells ≡ pick (takesCount s first raw) (codeIn (byteOf raw) first cellPin) (s .registers .cells)
+
+abbrev pub RunsReadBack : Type 0
+RunsReadBack = (s : State) (first : ℕ) (raw : Raw) (t : State) → stateOk s ≡ true → runOf s first raw ≡ accepted t → LeavesAsWritten s first raw t
