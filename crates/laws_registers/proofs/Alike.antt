@@ -11,24 +11,24 @@ use Rattle.log_raw.specs.Raw.{Raw, byteOf}
 use Rattle.state_fields.proofs.Gathers.{nth}
 use Rattle.state_parts.specs.declared.profile.Profile.{Profile}
 use Rattle.state_parts.specs.declared.state.State.{State}
-use Rattle.state_runs.specs.Bytes.{valueIn, upTo, within, codeIn}
-use Rattle.state_runs.specs.Runs.{outside, halves, badFrequency, badRun, keptRun, keptOf, withKept, writtenRun, runOf, acts, resets, serves}
+use Rattle.state_runs.specs.Bytes.{valueIn, stepwise, isWritten, writtenCode}
+use Rattle.state_runs.specs.Runs.{outside, halves, illegalFrequency, badRun, keptRun, keptOf, withKept, writtenRun, writeRunOf, acts, resets, serves}
 use Rattle.state_table.specs.Rows.{Field, fields, digitOf, fsw, regRst, wdRst, frequencyOk}
 use Rattle.state_registers.specs.Resets.{resetOf}
 use Rattle.step_kinds.specs.Changes.{changed}
 use Rattle.step_kinds.specs.declared.change.Way.the-variants.{Plain}
 use Rattle.step_kinds.specs.Plain.{servicedOf, actedOf, afterRun, runFrom}
-use Rattle.laws_registers.specs.Alike.{isWritten, Alike, OnlyWrittenCount}
+use Rattle.laws_registers.specs.Alike.{isWritable, Alike, OnlyWrittenCount}
 use Rattle.laws_registers.proofs.Places.{by-number}
 use Rattle.laws_registers.proofs.Values.{judged-alike, taken-alike}
 
 -- steps that do the same at each number
-pub up-alike : {A : Type 0} (step other : A → ℕ → A) (k : ℕ) (u : A) → ((i : ℕ) → i < k → (v : A) → step v i ≡ other v i) → upTo step k u ≡ upTo other k u
+pub up-alike : {A : Type 0} (step other : A → ℕ → A) (k : ℕ) (u : A) → ((i : ℕ) → i < k → (v : A) → step v i ≡ other v i) → stepwise step k u ≡ stepwise other k u
 up-alike step other zero u same = refl
-up-alike step other (suc k) u same = same k (omega arith) (upTo step k u) ∙ ap (λ (v : _). other v k) (up-alike step other k u (λ i h. same i (omega arith)))
+up-alike step other (suc k) u same = same k (omega arith) (stepwise step k u) ∙ ap (λ (v : _). other v k) (up-alike step other k u (λ i h. same i (omega arith)))
 
 -- a field that is written where a run says so
-written-there : (first count : ℕ) (f : Field) (i : ℕ) → i < count → f .address ≡ first + i → within first count f ≡ true
+written-there : (first count : ℕ) (f : Field) (i : ℕ) → i < count → f .address ≡ first + i → isWritten first count f ≡ true
 written-there first count f i h e = rw (le-leb first (f .address) (omega arith), lt-ltb (f .address) (first + count) (omega arith)) refl
 
 module _ (s : State) (first : ℕ) (one other : Raw) (same : Alike first one other) where
@@ -38,11 +38,11 @@ module _ (s : State) (first : ℕ) (one other : Raw) (same : Alike first one oth
   abbrev n : ℕ
   n = one .count
 
-  codes : (j : ℕ) → j < 147 → isWritten (nth j .access) ≡ true → within first n (nth j) ≡ true → codeIn (byteOf one) first (nth j) ≡ codeIn (byteOf other) first (nth j)
+  codes : (j : ℕ) → j < 147 → isWritable (nth j .access) ≡ true → isWritten first n (nth j) ≡ true → writtenCode (byteOf one) first (nth j) ≡ writtenCode (byteOf other) first (nth j)
   codes j h =
-      subst (λ (f : Field). isWritten (f .access) ≡ true → within first n f ≡ true → codeIn (byteOf one) first f ≡ codeIn (byteOf other) first f) (by-number j h) (same .codes j)
+      subst (λ (f : Field). isWritable (f .access) ≡ true → isWritten first n f ≡ true → writtenCode (byteOf one) first f ≡ writtenCode (byteOf other) first f) (by-number j h) (same .codes j)
 
-  digits : (i : ℕ) → i < n → (j : ℕ) → j < 147 → nth j .address ≡ first + i → isWritten (nth j .access) ≡ true
+  digits : (i : ℕ) → i < n → (j : ℕ) → j < 147 → nth j .address ≡ first + i → isWritable (nth j .access) ≡ true
       → digitOf (nth j) (valueIn (byteOf one) i) ≡ digitOf (nth j) (valueIn (byteOf other) i)
   digits i h j l there written =
       let k : nth j .address - first ≡ i = omega arith in
@@ -58,15 +58,15 @@ module _ (s : State) (first : ℕ) (one other : Raw) (same : Alike first one oth
   taken = up-alike _ _ n (keptOf s) (λ i h k. taken-alike p (first + i) (valueIn (byteOf one) i) (valueIn (byteOf other) i) (digits i h) (s .registers) k)
 
   -- where a field is written, its code counts
-  at-row : (j : ℕ) (f : Field) → j < 147 → nth j ≡ f → isWritten (f .access) ≡ true → (test : ℕ → Bool)
-      → (within first n f && test (codeIn (byteOf one) first f)) ≡ (within first n f && test (codeIn (byteOf other) first f))
-  at-row j f h row written test = go (within first n f) refl
+  at-row : (j : ℕ) (f : Field) → j < 147 → nth j ≡ f → isWritable (f .access) ≡ true → (test : ℕ → Bool)
+      → (isWritten first n f && test (writtenCode (byteOf one) first f)) ≡ (isWritten first n f && test (writtenCode (byteOf other) first f))
+  at-row j f h row written test = go (isWritten first n f) refl
     where
-      go : (t : Bool) → within first n f ≡ t → (t && test (codeIn (byteOf one) first f)) ≡ (t && test (codeIn (byteOf other) first f))
-      go true e = ap test (subst (λ (g : Field). isWritten (g .access) ≡ true → within first n g ≡ true → codeIn (byteOf one) first g ≡ codeIn (byteOf other) first g) row (codes j h) written e)
+      go : (t : Bool) → isWritten first n f ≡ t → (t && test (writtenCode (byteOf one) first f)) ≡ (t && test (writtenCode (byteOf other) first f))
+      go true e = ap test (subst (λ (g : Field). isWritable (g .access) ≡ true → isWritten first n g ≡ true → writtenCode (byteOf one) first g ≡ writtenCode (byteOf other) first g) row (codes j h) written e)
       go false e = refl
 
-  frequency : badFrequency (byteOf one) first n p ≡ badFrequency (byteOf other) first n p
+  frequency : illegalFrequency (byteOf one) first n p ≡ illegalFrequency (byteOf other) first n p
   unfolding fields
   frequency = at-row 62 fsw (omega arith) refl refl (λ c. not (frequencyOk p c))
 
@@ -87,12 +87,12 @@ module _ (s : State) (first : ℕ) (one other : Raw) (same : Alike first one oth
   tested spelled beyond cut bad worse after =
       pick (not spelled) (refused 5) (pick beyond (refused 10) (pick cut (refused 15) (pick bad (refused 11) (pick worse (refused 9) (accepted after)))))
 
-  told : runOf s first one ≡ runOf s first other
-  unfolding runOf
+  told : writeRunOf s first one ≡ writeRunOf s first other
+  unfolding writeRunOf
   told =
       let beyond = ap (outside first) (same .long) in
       let cut = ap (halves p first) (same .long) in
-      let bad = frequency ∙ ap (λ (k : ℕ). badFrequency (byteOf other) first k p) (same .long) in
+      let bad = frequency ∙ ap (λ (k : ℕ). illegalFrequency (byteOf other) first k p) (same .long) in
       let worse = judged ∙ ap (λ (k : ℕ). badRun (byteOf other) first k p) (same .long) in
       let spelled = same .one-spelled ∙ sym (same .other-spelled) in
       λ i. tested (spelled i) (beyond i) (cut i) (bad i) (worse i) (written-alike i)
@@ -107,7 +107,7 @@ module _ (s : State) (first : ℕ) (one other : Raw) (same : Alike first one oth
 
   run-alike : runFrom s first one ≡ runFrom s first other
   unfolding runFrom
-  run-alike = ap (λ (t : Told State). afterRun t first one) told ∙ ends-alike (runOf s first other)
+  run-alike = ap (λ (t : Told State). afterRun t first one) told ∙ ends-alike (writeRunOf s first other)
 
 pub only-written-count : OnlyWrittenCount
 only-written-count s first one other same = run-alike s first one other same

@@ -22,7 +22,7 @@ use Rattle.state_parts.specs.declared.state.Model.the-variants.{Off, On}
 use Rattle.state_registers.specs.Writes.{writtenRegisters, writtenTo, writeOf}
 use Rattle.state_runs.specs.Bytes.{valueIn}
 use Rattle.state_runs.specs.Registers.{settingsTaken, badRegister, registerTaken}
-use Rattle.state_runs.specs.Runs.{outside, halves, badFrequency, badRun, keptRun, keptOf, withKept, writtenRun, runOf, resets, serves}
+use Rattle.state_runs.specs.Runs.{outside, halves, illegalFrequency, badRun, keptRun, keptOf, withKept, writtenRun, writeRunOf, resets, serves}
 use Rattle.state_runs.specs.declared.registers.Kept.{Kept}
 use Rattle.state_table.specs.Rows.{fields, fieldsOf, fsw, digitOf, frequencyOk}
 use Rattle.state_valid.specs.Holds.{stateOk}
@@ -66,9 +66,9 @@ module _ (p : Profile) (a : ℕ) (low : 0x15 ≤ a) (high : a ≤ 0x1C) where
   never-bad value = span (λ (n : ℕ). badRegister p n value ≡ false) 0x15 8 a (refl, (refl, (refl, (refl, (refl, (refl, (refl, (refl, tt)))))))) low (omega arith)
 
   -- FSW alone is judged
-  frequency : (byte : ℕ → ℕ) → byte 1 ≡ 0 → badFrequency byte a 1 p ≡ (eqb a 0x16 && not (frequencyOk p (digitOf fsw (byte 0))))
+  frequency : (byte : ℕ → ℕ) → byte 1 ≡ 0 → illegalFrequency byte a 1 p ≡ (eqb a 0x16 && not (frequencyOk p (digitOf fsw (byte 0))))
   frequency byte e =
-      span (λ (n : ℕ). badFrequency byte n 1 p ≡ (eqb n 0x16 && not (frequencyOk p (digitOf fsw (byte 0))))) 0x15 8 a
+      span (λ (n : ℕ). illegalFrequency byte n 1 p ≡ (eqb n 0x16 && not (frequencyOk p (digitOf fsw (byte 0))))) 0x15 8 a
       (refl, (ap (λ (v : ℕ). not (frequencyOk p (digitOf fsw v))) alone, (refl, (refl, (refl, (refl, (refl, (refl, tt)))))))) low (omega arith)
     where
       alone : valueIn byte 0 ≡ byte 0
@@ -101,12 +101,12 @@ module _ (s : State) (a : ℕ) (low : 0x15 ≤ a) (high : a ≤ 0x1C) (raw : Raw
   fine : badRun (byteOf raw) a (raw .count) p ≡ false
   fine = byte-judged raw given p a ∙ never-bad p a low high byte
 
-  as-write : runOf s a raw ≡ writeOf s a byte
-  unfolding runOf writeOf
+  as-write : writeRunOf s a raw ≡ writeOf s a byte
+  unfolding writeRunOf writeOf
   as-write =
       let inside : outside a (raw .count) ≡ false = ap (outside a) (given .one) ∙ rw (le-leb (a + 1) 39 (omega arith)) refl in
       let whole : halves p a (raw .count) ≡ false = ap (halves p a) (given .one) ∙ is-whole p a low high in
-      let judged = ap (λ (n : ℕ). badFrequency (byteOf raw) a n p) (given .one) ∙ frequency p a low high (byteOf raw) (nothing-behind raw given) in
+      let judged = ap (λ (n : ℕ). illegalFrequency (byteOf raw) a n p) (given .one) ∙ frequency p a low high (byteOf raw) (nothing-behind raw given) in
       simp (given .spelled, inside, whole, judged, fine, written, le-leb 0x15 a low, le-leb a 0x1C high, le-leb byte 255 small)
 
   -- nothing acts behind it

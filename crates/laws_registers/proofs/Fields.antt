@@ -21,9 +21,9 @@ use Rattle.state_parts.specs.declared.settings.Settings.{Settings}
 use Rattle.state_parts.specs.declared.state.State.{State}
 use Rattle.state_parts.specs.declared.state.Model.the-variants.{On}
 use Rattle.state_registers.proofs.Said.{every-value-said}
-use Rattle.state_runs.specs.Bytes.{valueIn, within, codeIn}
+use Rattle.state_runs.specs.Bytes.{valueIn, isWritten, writtenCode}
 use Rattle.state_runs.specs.Registers.{settingBy, settingsTaken, badBy, badRegister, registerTaken}
-use Rattle.state_runs.specs.Runs.{outside, halves, badFrequency, badRun, keptRun, keptOf, withKept, writtenRun, runOf, resets, serves}
+use Rattle.state_runs.specs.Runs.{outside, halves, illegalFrequency, badRun, keptRun, keptOf, withKept, writtenRun, writeRunOf, resets, serves}
 use Rattle.state_settings.specs.Kept.{settingsOk}
 use Rattle.state_settings.specs.Numbered.{heldOf, storeOf}
 use Rattle.state_settings.specs.Ranges.{lastSetting, mayHold}
@@ -199,8 +199,8 @@ module _ (s : State) (ok : stateOk s ≡ true) (i n step code : ℕ) (h : i < 14
   whole : halves p a (raw .count) ≡ false
   whole = ap (halves p a) (given .whole) ∙ housed-at p i h .whole
 
-  legal : badFrequency (byteOf raw) a (raw .count) p ≡ false
-  legal = ap (λ (k : ℕ). badFrequency (byteOf raw) a k p) (given .whole) ∙ rw (single .no-frequency) refl
+  legal : illegalFrequency (byteOf raw) a (raw .count) p ≡ false
+  legal = ap (λ (k : ℕ). illegalFrequency (byteOf raw) a k p) (given .whole) ∙ rw (single .no-frequency) refl
 
   held : badRun (byteOf raw) a (raw .count) p ≡ not (mayHold p n v)
   held = ap (λ (k : ℕ). badRun (byteOf raw) a k p) (given .whole) ∙ one-judged p a (byteOf raw) ∙ judged-alone
@@ -213,7 +213,7 @@ module _ (s : State) (ok : stateOk s ≡ true) (i n step code : ℕ) (h : i < 14
       ∙ rw (single .no-count, set-alone, words-stand) refl
 
   -- REG_RST reads 0, and WD_RST is elsewhere: neither acts
-  no-reset-code : a ≡ regRst .address → codeIn (byteOf raw) a regRst ≡ 0
+  no-reset-code : a ≡ regRst .address → writtenCode (byteOf raw) a regRst ≡ 0
   unfolding codeOf
   no-reset-code e =
       let other : 30 ≡ i → ⊥ = λ same. let k : _≡_ {A = ℕ} 9 5 = ap kindOf (ap (λ (g : Field). g .access) (sym reset-row) ∙ ap (λ (x : ℕ). nth x .access) same ∙ here) in omega arith in
@@ -224,14 +224,14 @@ module _ (s : State) (ok : stateOk s ≡ true) (i n step code : ℕ) (h : i < 14
   acts-not : (resets a raw ≡ false) × (serves a raw ≡ false)
   unfolding resets serves
   acts-not = (
-    ap (λ (k : ℕ). within a k regRst && eqb (codeIn (byteOf raw) a regRst) 1) (given .whole)
-        ∙ ⊎-elim (λ none. ap (λ (b : Bool). b && eqb (codeIn (byteOf raw) a regRst) 1) none)
-        (λ same. ap (λ (x : ℕ). within a (registerSize p a) regRst && eqb x 1) (no-reset-code same) ∙ never (within a (registerSize p a) regRst)) (single .reset),
-    ap (λ (k : ℕ). within a k wdRst && eqb (codeIn (byteOf raw) a wdRst) 1) (given .whole) ∙ rw (single .no-service) refl,
+    ap (λ (k : ℕ). isWritten a k regRst && eqb (writtenCode (byteOf raw) a regRst) 1) (given .whole)
+        ∙ ⊎-elim (λ none. ap (λ (b : Bool). b && eqb (writtenCode (byteOf raw) a regRst) 1) none)
+        (λ same. ap (λ (x : ℕ). isWritten a (registerSize p a) regRst && eqb x 1) (no-reset-code same) ∙ never (isWritten a (registerSize p a) regRst)) (single .reset),
+    ap (λ (k : ℕ). isWritten a k wdRst && eqb (writtenCode (byteOf raw) a wdRst) 1) (given .whole) ∙ rw (single .no-service) refl,
   )
 
-  told : runOf s a raw ≡ pick (not (mayHold p n v)) (refused 9) (accepted (withSettings s (storeOf t n v)))
-  unfolding runOf
+  told : writeRunOf s a raw ≡ pick (not (mayHold p n v)) (refused 9) (accepted (withSettings s (storeOf t n v)))
+  unfolding writeRunOf
   told = simp (given .spelled, inside, whole, legal, held, written)
 
   as-set : runFrom s a raw ≡ setOf s n v

@@ -10,7 +10,7 @@ use lib.Dec.{eqb, leb, ltb}
 use lib.ListN.{length, getD}
 use borrow.Author.Tests.{eqb-true, leb-true, ltb-true, ltb-false, le-leb, lt-ltb, le-ltb, eq-eqb}
 use Rattle.base.specs.Pick.{pick}
-use Rattle.state_runs.specs.Bytes.{upTo}
+use Rattle.state_runs.specs.Bytes.{stepwise}
 use Rattle.state_table.specs.Rows.{Field, over}
 use Rattle.state_table.specs.Packed.{noField}
 use Rattle.laws_registers.proofs.Folds.{turned}
@@ -58,20 +58,20 @@ module _ {A X : Type 0} (get : A → X) where
         go false e = refl
 
     pub up-gets : (k : ℕ) → ((i : ℕ) → i < k → (u : A) → Holds u → Holds (step u i) × (get (step u i) ≡ pick (eqb address (first + i)) (new i (get u)) (get u)))
-        → (u : A) → Holds u → Holds (upTo step k u) × (get (upTo step k u) ≡ pick (reached k) (new (address - first) (get u)) (get u))
+        → (u : A) → Holds u → Holds (stepwise step k u) × (get (stepwise step k u) ≡ pick (reached k) (new (address - first) (get u)) (get u))
     up-gets zero each u holds = (holds, ap (λ (t : Bool). pick t (new (address - first) (get u)) (get u)) (sym none-yet))
     up-gets (suc k) each u holds =
         let before = up-gets k (λ i h. each i (omega arith)) u holds in
-        let now = each k (omega arith) (upTo step k u) (before .0) in (
+        let now = each k (omega arith) (stepwise step k u) (before .0) in (
           now .0,
           now .1 ∙ go (eqb address (first + k)) refl (before .1),
         )
       where
-        go : (t : Bool) → eqb address (first + k) ≡ t → get (upTo step k u) ≡ pick (reached k) (new (address - first) (get u)) (get u)
-            → pick t (new k (get (upTo step k u))) (get (upTo step k u)) ≡ pick (reached (suc k)) (new (address - first) (get u)) (get u)
+        go : (t : Bool) → eqb address (first + k) ≡ t → get (stepwise step k u) ≡ pick (reached k) (new (address - first) (get u)) (get u)
+            → pick t (new k (get (stepwise step k u))) (get (stepwise step k u)) ≡ pick (reached (suc k)) (new (address - first) (get u)) (get u)
         go true e b =
             let here = eqb-true address (first + k) e in
             let place : address - first ≡ k = omega arith in
-            let old : get (upTo step k u) ≡ get u = b ∙ ap (λ (t : Bool). pick t (new (address - first) (get u)) (get u)) (outside k here) in
+            let old : get (stepwise step k u) ≡ get u = b ∙ ap (λ (t : Bool). pick t (new (address - first) (get u)) (get u)) (outside k here) in
             ap (new k) old ∙ ap (λ (n : ℕ). new n (get u)) (sym place) ∙ ap (λ (t : Bool). pick t (new (address - first) (get u)) (get u)) (sym (at-last k here))
         go false e b = b ∙ ap (λ (t : Bool). pick t (new (address - first) (get u)) (get u)) (sym (elsewhere k (λ same. false≢true (sym e ∙ eq-eqb address (first + k) same))))

@@ -19,7 +19,7 @@ use Rattle.state_parts.specs.declared.profile.Profile.{Profile}
 use Rattle.state_parts.specs.declared.settings.Settings.{Settings}
 use Rattle.state_parts.specs.declared.state.State.{State}
 use Rattle.state_runs.specs.Registers.{settingsTaken, badRegister, registerTaken}
-use Rattle.state_runs.specs.Runs.{outside, halves, badFrequency, badRun, keptOf, withKept, writtenRun, runOf, resets, serves}
+use Rattle.state_runs.specs.Runs.{outside, halves, illegalFrequency, badRun, keptOf, withKept, writtenRun, writeRunOf, resets, serves}
 use Rattle.state_runs.proofs.Settings.{masks-may, masks-low}
 use Rattle.state_settings.specs.Numbered.{storeOf}
 use Rattle.state_settings.proofs.Stores.{store-passes}
@@ -41,7 +41,7 @@ use Rattle.laws_registers.proofs.Words.{stored-code, words-held}
 record Open (p : Profile) (a : ℕ) : Type 0 where
   inside : outside a 1 ≡ false
   whole : halves p a 1 ≡ false
-  legal : (byte : ℕ → ℕ) → badFrequency byte a 1 p ≡ false
+  legal : (byte : ℕ → ℕ) → illegalFrequency byte a 1 p ≡ false
   fine : (value : ℕ) → badRegister p a value ≡ false
   uncounted : eqb a 0x1B ≡ false
   quiet : (raw : Raw) → (resets a raw ≡ false) × (serves a raw ≡ false)
@@ -82,13 +82,13 @@ module _ (s : State) (ok : stateOk s ≡ true) (a : ℕ) (opened : Open (s .prof
   unfolding writtenRun registerTaken
   written = ap (withKept s) (byte-taken raw (given .one) p a (s .registers) (keptOf s)) ∙ rw (opened .uncounted, sets, words-stand) refl
 
-  told : runOf s a raw ≡ accepted after
-  unfolding runOf
+  told : writeRunOf s a raw ≡ accepted after
+  unfolding writeRunOf
   told =
       let one = given .one .one in
       let inside : outside a (raw .count) ≡ false = ap (outside a) one ∙ opened .inside in
       let whole : halves p a (raw .count) ≡ false = ap (halves p a) one ∙ opened .whole in
-      let legal : badFrequency (byteOf raw) a (raw .count) p ≡ false = ap (λ (n : ℕ). badFrequency (byteOf raw) a n p) one ∙ opened .legal (byteOf raw) in
+      let legal : illegalFrequency (byteOf raw) a (raw .count) p ≡ false = ap (λ (n : ℕ). illegalFrequency (byteOf raw) a n p) one ∙ opened .legal (byteOf raw) in
       let fine : badRun (byteOf raw) a (raw .count) p ≡ false = byte-judged raw (given .one) p a ∙ opened .fine (byteOf raw 0) in
       simp (given .one .spelled, inside, whole, legal, fine, written)
 

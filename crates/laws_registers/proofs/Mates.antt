@@ -13,7 +13,7 @@ use Rattle.state_table.specs.declared.Access.{Access}
 use Rattle.state_table.specs.declared.Access.the-variants.{Reserved, Fixed, Status, Flag, Stored, Setting, Mask, Counted, Pin, Acts}
 use Rattle.state_table.proofs.Tested.{every, at}
 use Rattle.state_fields.proofs.Gathers.{nth}
-use Rattle.state_runs.specs.Bytes.{within}
+use Rattle.state_runs.specs.Bytes.{isWritten}
 use Rattle.laws_registers.specs.Fields.{registerSize}
 use Rattle.laws_registers.proofs.Places.{in-table}
 
@@ -32,8 +32,8 @@ mate n (Acts number) = true
 
 abbrev alone : Profile → ℕ → ℕ → Bool
 alone p n a =
-    leb 1 n && leb n lastSetting && not (within a (registerSize p a) fsw) && not (within a (registerSize p a) wdRst)
-    && (not (within a (registerSize p a) regRst) || eqb a (regRst .address)) && not (eqb a (cellPin .address))
+    leb 1 n && leb n lastSetting && not (isWritten a (registerSize p a) fsw) && not (isWritten a (registerSize p a) wdRst)
+    && (not (isWritten a (registerSize p a) regRst) || eqb a (regRst .address)) && not (eqb a (cellPin .address))
 
 abbrev beside : Profile → Field → Access → Bool
 beside p f Reserved = true
@@ -55,9 +55,9 @@ all-beside p = refl
 pub record Alone (p : Profile) (n i : ℕ) : Type 0 where
   pub some : 1 ≤ n
   pub known : n ≤ lastSetting
-  pub no-frequency : within (nth i .address) (registerSize p (nth i .address)) fsw ≡ false
-  pub no-service : within (nth i .address) (registerSize p (nth i .address)) wdRst ≡ false
-  pub reset : (within (nth i .address) (registerSize p (nth i .address)) regRst ≡ false) ⊎ (nth i .address ≡ regRst .address)
+  pub no-frequency : isWritten (nth i .address) (registerSize p (nth i .address)) fsw ≡ false
+  pub no-service : isWritten (nth i .address) (registerSize p (nth i .address)) wdRst ≡ false
+  pub reset : (isWritten (nth i .address) (registerSize p (nth i .address)) regRst ≡ false) ⊎ (nth i .address ≡ regRst .address)
   pub no-count : eqb (nth i .address) (cellPin .address) ≡ false
   pub mates : (j : ℕ) → j < 147 → nth j .address ≡ nth i .address → (bitOf (nth j) ≡ bitOf (nth i) → ⊥) → mate n (nth j .access) ≡ true
 
@@ -83,9 +83,9 @@ alone-at p i n step h e =
     record {
       some = k .0 .0 .0 .0 .0;
       known = k .0 .0 .0 .0 .1;
-      no-frequency = not-true (within a size fsw) (k .0 .0 .0 .1);
-      no-service = not-true (within a size wdRst) (k .0 .0 .1);
-      reset = ⊎-elim (λ none. inl none) (λ same. inr (eqb-true a (regRst .address) same)) (one-of (within a size regRst) (eqb a (regRst .address)) (k .0 .1));
+      no-frequency = not-true (isWritten a size fsw) (k .0 .0 .0 .1);
+      no-service = not-true (isWritten a size wdRst) (k .0 .0 .1);
+      reset = ⊎-elim (λ none. inl none) (λ same. inr (eqb-true a (regRst .address) same)) (one-of (isWritten a size regRst) (eqb a (regRst .address)) (k .0 .1));
       no-count = not-true (eqb a (cellPin .address)) (k .1);
       mates = λ j l here apart.
           third (eqb (nth j .address) a) (eqb (bitOf (nth j)) (bitOf f)) (mate n (nth j .access)) (eq-eqb (nth j .address) a here)

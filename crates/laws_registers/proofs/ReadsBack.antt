@@ -18,7 +18,7 @@ use Rattle.state_parts.specs.declared.settings.Settings.{Settings}
 use Rattle.state_parts.specs.declared.state.State.{State}
 use Rattle.state_registers.specs.Writes.{countTaken, recounted}
 use Rattle.state_registers.proofs.Keeps.{parts-apart}
-use Rattle.state_runs.specs.Bytes.{valueIn, within, codeIn}
+use Rattle.state_runs.specs.Bytes.{valueIn, isWritten, writtenCode}
 use Rattle.state_runs.specs.Registers.{settingsTaken, badRegister, registerTaken}
 use Rattle.state_runs.specs.Runs.{badRun, keptRun, keptOf, writtenRun}
 use Rattle.state_runs.specs.declared.registers.Kept.{Kept}
@@ -64,7 +64,7 @@ module _ (s : State) (ok : stateOk s ≡ true) (first : ℕ) (raw : Raw) (fine :
   abbrev final : Kept
   final = keptRun (byteOf raw) first (raw .count) p g (keptOf s)
 
-  stored-after : (i : ℕ) → i < 147 → stored (nth i) ≡ true → fieldIn (nth i) (final .words) ≡ pick (within first (raw .count) (nth i)) (codeIn (byteOf raw) first (nth i)) (fieldIn (nth i) (g .words))
+  stored-after : (i : ℕ) → i < 147 → stored (nth i) ≡ true → fieldIn (nth i) (final .words) ≡ pick (isWritten first (raw .count) (nth i)) (writtenCode (byteOf raw) first (nth i)) (fieldIn (nth i) (g .words))
   unfolding keptRun registerTaken
   stored-after i h st =
       up-gets (λ (k : Kept). fieldIn (nth i) (k .words)) (λ (k : Kept). Whole (k .words)) step first (nth i .address) (λ (m old : ℕ). digitOf (nth i) (value m)) (raw .count)
@@ -74,7 +74,7 @@ module _ (s : State) (ok : stateOk s ≡ true) (first : ℕ) (raw : Raw) (fine :
             ∙ ap (λ (b : Bool). pick (b && eqb (nth i .address) (first + m)) (digitOf (nth i) (value m)) (fieldIn (nth i) (u .words))) st,
       )) (keptOf s) (sound-whole p (g .words) (parts-apart p g (apart s ok .registers) .words)) .1
 
-  cells-after : final .cells ≡ pick (takesCount s first raw) (codeIn (byteOf raw) first cellPin) (g .cells)
+  cells-after : final .cells ≡ pick (takesCount s first raw) (writtenCode (byteOf raw) first cellPin) (g .cells)
   unfolding keptRun registerTaken
   cells-after =
       up-gets (λ (k : Kept). k .cells) (λ (k : Kept). Unit {0}) step first 0x1B (λ (m old : ℕ). pick (countTaken g 0x1B (value m)) (digitOf cellPin (value m)) old) (raw .count)
@@ -83,7 +83,7 @@ module _ (s : State) (ok : stateOk s ≡ true) (first : ℕ) (raw : Raw) (fine :
         ap (λ (b : Bool). pick b (digitOf cellPin (value m)) (u .cells)) (count-there g (first + m) (value m))
             ∙ both-picked (eqb 0x1B (first + m)) (countTaken g 0x1B (value m)) (digitOf cellPin (value m)) (u .cells),
       )) (keptOf s) tt .1
-      ∙ sym (both-picked (within first (raw .count) cellPin) (countTaken g 0x1B (value (0x1B - first))) (codeIn (byteOf raw) first cellPin) (g .cells))
+      ∙ sym (both-picked (isWritten first (raw .count) cellPin) (countTaken g 0x1B (value (0x1B - first))) (writtenCode (byteOf raw) first cellPin) (g .cells))
 
   -- where the run takes no count, none of its registers does
   none-counted : takesCount s first raw ≡ false → (m : ℕ) → m < raw .count → countTaken g (first + m) (value m) ≡ false
@@ -93,7 +93,7 @@ module _ (s : State) (ok : stateOk s ≡ true) (first : ℕ) (raw : Raw) (fine :
       go true e =
           let here = eqb-true 0x1B (first + m) e in
           let place : 0x1B - first ≡ m = omega arith in
-          let there : within first (raw .count) cellPin ≡ true = rw (le-leb first 0x1B (omega arith), lt-ltb 0x1B (first + raw .count) (omega arith)) refl in
+          let there : isWritten first (raw .count) cellPin ≡ true = rw (le-leb first 0x1B (omega arith), lt-ltb 0x1B (first + raw .count) (omega arith)) refl in
           ap (λ (k : ℕ). countTaken g 0x1B (value k)) (sym place) ∙ sym (ap (λ (b : Bool). b && countTaken g 0x1B (value (0x1B - first))) there) ∙ none
       go false e = refl
 
@@ -107,7 +107,7 @@ module _ (s : State) (ok : stateOk s ≡ true) (first : ℕ) (raw : Raw) (fine :
         go others true = held-recounted p (digitOf cellPin (value m)) t n (others .0) (others .1) (alone-at p i n k h e .some) (alone-at p i n k h e .known)
         go others false = refl
 
-    settings-after : heldOf (final .settings) n ≡ pick (within first (raw .count) (nth i)) (codeIn (byteOf raw) first (nth i) * k) (heldOf (s .settings) n)
+    settings-after : heldOf (final .settings) n ≡ pick (isWritten first (raw .count) (nth i)) (writtenCode (byteOf raw) first (nth i) * k) (heldOf (s .settings) n)
     unfolding keptRun registerTaken badRun
     settings-after =
         up-gets (λ (u : Kept). heldOf (u .settings) n) (λ (u : Kept). Unit {0}) step first (nth i .address) (λ (m old : ℕ). digitOf (nth i) (value m) * k) (raw .count)

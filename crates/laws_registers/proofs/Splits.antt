@@ -21,7 +21,7 @@ use Rattle.state_parts.specs.declared.state.State.{State}
 use Rattle.state_parts.specs.declared.words.Words.{Words}
 use Rattle.state_registers.specs.Writes.{countTaken}
 use Rattle.state_registers.proofs.Keeps.{parts-apart}
-use Rattle.state_runs.specs.Bytes.{valueIn, upTo}
+use Rattle.state_runs.specs.Bytes.{valueIn, stepwise}
 use Rattle.state_runs.specs.Registers.{registerTaken}
 use Rattle.state_runs.specs.Runs.{inMiddle, keptRun, keptOf, withKept, writtenRun}
 use Rattle.state_runs.specs.declared.registers.Kept.{Kept}
@@ -30,15 +30,15 @@ use Rattle.state_table.specs.Rows.{Field, fields, fieldsOf, digitOf, cellPin, c
 use Rattle.state_valid.specs.Holds.{stateOk}
 use Rattle.state_valid.proofs.Wholes.{apart}
 use Rattle.laws_registers.specs.Fields.{registerSize}
-use Rattle.laws_registers.specs.Alike.{isWritten}
+use Rattle.laws_registers.specs.Alike.{isWritable}
 use Rattle.laws_registers.specs.Splits.{Split, RunsSplit}
 use Rattle.laws_registers.proofs.Alike.{up-alike}
 use Rattle.laws_registers.proofs.Places.{housed-at}
 use Rattle.laws_registers.proofs.Values.{taken-alike}
 
-up-split : {A : Type 0} (step : A → ℕ → A) (j k : ℕ) (u : A) → upTo step (j + k) u ≡ upTo (λ (v : A) (i : ℕ). step v (j + i)) k (upTo step j u)
-up-split step j zero u = ap (λ (n : ℕ). upTo step n u) (add-zero j)
-up-split step j (suc k) u = ap (λ (n : ℕ). upTo step n u) (add-suc j k) ∙ ap (λ (v : _). step v (j + k)) (up-split step j k u)
+up-split : {A : Type 0} (step : A → ℕ → A) (j k : ℕ) (u : A) → stepwise step (j + k) u ≡ stepwise (λ (v : A) (i : ℕ). step v (j + i)) k (stepwise step j u)
+up-split step j zero u = ap (λ (n : ℕ). stepwise step n u) (add-zero j)
+up-split step j (suc k) u = ap (λ (n : ℕ). stepwise step n u) (add-suc j k) ∙ ap (λ (v : _). step v (j + k)) (up-split step j k u)
 
 -- CELL_PIN_OVERRIDE is the table's field 87
 override-row : nth 87 ≡ cellOverride
@@ -85,7 +85,7 @@ module _ (s : State) (ok : stateOk s ≡ true) (first : ℕ) (all front back : R
   j = front .count
 
   -- a field of the front's register i has the same code in both
-  front-code : (i : ℕ) → i < j → (k : ℕ) → k < 147 → nth k .address ≡ first + i → isWritten (nth k .access) ≡ true
+  front-code : (i : ℕ) → i < j → (k : ℕ) → k < 147 → nth k .address ≡ first + i → isWritable (nth k .access) ≡ true
       → digitOf (nth k) (valueIn (byteOf all) i) ≡ digitOf (nth k) (valueIn (byteOf front) i)
   front-code i h k l there written = ⊎-elim last inner (eq-or-lt-of-le h)
     where
@@ -147,7 +147,7 @@ module _ (s : State) (ok : stateOk s ≡ true) (first : ℕ) (all front back : R
           ∙ ap (λ (c : ℕ). eqb a 0x1B && eqb c 1 && not (eqb (digitOf cellPin value) 0) && not (eqb (digitOf cellPin value) (middle .cells))) (sym (u .override))
       go false e = rw e refl
 
-  behind : upTo (λ (u : Kept) (i : ℕ). registerTaken p g (first + (j + i)) (valueIn (byteOf all) (j + i)) u) (back .count) middle
+  behind : stepwise (λ (u : Kept) (i : ℕ). registerTaken p g (first + (j + i)) (valueIn (byteOf all) (j + i)) u) (back .count) middle
       ≡ keptRun (byteOf back) (first + j) (back .count) p then middle
   unfolding keptRun
   behind =
@@ -157,7 +157,7 @@ module _ (s : State) (ok : stateOk s ≡ true) (first : ℕ) (all front back : R
       ∙ by-count p g then (first + j + i) (valueIn (byteOf back) i) k (same-count (first + j + i) (valueIn (byteOf back) i) (omega arith)))
 
   parted : keptRun (byteOf all) first (j + back .count) p g (keptOf s)
-      ≡ upTo (λ (u : Kept) (i : ℕ). registerTaken p g (first + (j + i)) (valueIn (byteOf all) (j + i)) u) (back .count) (keptRun (byteOf all) first j p g (keptOf s))
+      ≡ stepwise (λ (u : Kept) (i : ℕ). registerTaken p g (first + (j + i)) (valueIn (byteOf all) (j + i)) u) (back .count) (keptRun (byteOf all) first j p g (keptOf s))
   unfolding keptRun
   parted = up-split (λ (u : Kept) (i : ℕ). registerTaken p g (first + i) (valueIn (byteOf all) i) u) j (back .count) (keptOf s)
 
@@ -165,7 +165,7 @@ module _ (s : State) (ok : stateOk s ≡ true) (first : ℕ) (all front back : R
   unfolding writtenRun
   split-at =
       ap (withKept s)
-      (ap (λ (n : ℕ). keptRun (byteOf all) first n p g (keptOf s)) (given .long) ∙ parted ∙ ap (upTo _ (back .count)) in-front ∙ behind)
+      (ap (λ (n : ℕ). keptRun (byteOf all) first n p g (keptOf s)) (given .long) ∙ parted ∙ ap (stepwise _ (back .count)) in-front ∙ behind)
 
 pub runs-split : RunsSplit
 runs-split s first all front back ok given = split-at s ok first all front back given

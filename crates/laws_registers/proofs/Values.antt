@@ -21,7 +21,7 @@ use Rattle.state_table.specs.Packed.{noField}
 use Rattle.state_table.specs.declared.Access.{Access}
 use Rattle.state_table.specs.declared.Access.the-variants.{Reserved, Fixed, Status, Flag, Stored, Setting, Mask, Counted, Pin, Acts}
 use Rattle.state_table.proofs.Tested.{long}
-use Rattle.laws_registers.specs.Alike.{isWritten}
+use Rattle.laws_registers.specs.Alike.{isWritable}
 
 -- steps that do the same for each field
 over-alike : {A : Type 0} (on : Field → Bool) (step other : A → Field → A) (fs : List Field) (u : A)
@@ -31,7 +31,7 @@ over-alike on step other [] u same = refl
 over-alike on step other (f ∷ fs) u same =
     ap (over on step fs) (same 0 (omega arith) u) ∙ over-alike on step other fs (pick (on f) (other u f) u) (λ j h. same (suc j) (omega arith))
 
-stored-written : (x : Access) → isStored x ≡ true → isWritten x ≡ true
+stored-written : (x : Access) → isStored x ≡ true → isWritable x ≡ true
 stored-written Reserved e = absurd (false≢true e)
 stored-written (Fixed n) e = absurd (false≢true e)
 stored-written (Status n) e = absurd (false≢true e)
@@ -48,8 +48,8 @@ count-row : nth 85 ≡ cellPin
 unfolding fields
 count-row = refl
 
-module _ (p : Profile) (a v w : ℕ) (alike : (i : ℕ) → i < 147 → nth i .address ≡ a → isWritten (nth i .access) ≡ true → digitOf (nth i) v ≡ digitOf (nth i) w) where
-  sets-alike : (x : Access) (c d : ℕ) → (isWritten x ≡ true → c ≡ d) → (t : Settings) → settingBy x c t ≡ settingBy x d t
+module _ (p : Profile) (a v w : ℕ) (alike : (i : ℕ) → i < 147 → nth i .address ≡ a → isWritable (nth i .access) ≡ true → digitOf (nth i) v ≡ digitOf (nth i) w) where
+  sets-alike : (x : Access) (c d : ℕ) → (isWritable x ≡ true → c ≡ d) → (t : Settings) → settingBy x c t ≡ settingBy x d t
   sets-alike Reserved c d e t = refl
   sets-alike (Fixed n) c d e t = refl
   sets-alike (Status n) c d e t = refl
@@ -61,7 +61,7 @@ module _ (p : Profile) (a v w : ℕ) (alike : (i : ℕ) → i < 147 → nth i .a
   sets-alike (Pin n) c d e t = refl
   sets-alike (Acts n) c d e t = refl
 
-  bad-alike : (x : Access) (c d : ℕ) → (isWritten x ≡ true → c ≡ d) → badBy p x c ≡ badBy p x d
+  bad-alike : (x : Access) (c d : ℕ) → (isWritable x ≡ true → c ≡ d) → badBy p x c ≡ badBy p x d
   bad-alike Reserved c d e = refl
   bad-alike (Fixed n) c d e = refl
   bad-alike (Status n) c d e = refl
@@ -111,7 +111,7 @@ module _ (p : Profile) (a v w : ℕ) (alike : (i : ℕ) → i < 147 → nth i .a
   -- the count, where it is written
   count-same : eqb a (cellPin .address) ≡ true → digitOf cellPin v ≡ digitOf cellPin w
   count-same e =
-      subst (λ (g : Field). g .address ≡ a → isWritten (g .access) ≡ true → digitOf g v ≡ digitOf g w) count-row (alike 85 (omega arith)) (sym (eqb-true a (cellPin .address) e)) refl
+      subst (λ (g : Field). g .address ≡ a → isWritable (g .access) ≡ true → digitOf g v ≡ digitOf g w) count-row (alike 85 (omega arith)) (sym (eqb-true a (cellPin .address) e)) refl
 
   pub taken-alike : (before : Registers) (k : Kept) → registerTaken p before a v k ≡ registerTaken p before a w k
   unfolding registerTaken

@@ -14,22 +14,22 @@ use Rattle.state_table.specs.Rows.{cellPin, isStored}
 use Rattle.state_table.specs.Packed.{fieldAt}
 use Rattle.state_table.specs.declared.Access.the-variants.{Setting}
 use Rattle.state_valid.specs.Holds.{stateOk}
-use Rattle.state_runs.specs.Bytes.{valueIn, within, codeIn}
-use Rattle.state_runs.specs.Runs.{runOf}
+use Rattle.state_runs.specs.Bytes.{valueIn, isWritten, writtenCode}
+use Rattle.state_runs.specs.Runs.{writeRunOf}
 
 -- "CELL_PIN takes a written count only if CELL_PIN_OVERRIDE stood before the write, the count is 1-7 and it differs": this run has such a count
 abbrev pub takesCount : State → ℕ → Raw → Bool
-takesCount s first raw = within first (raw .count) cellPin && countTaken (s .registers) (cellPin .address) (valueIn (byteOf raw) (cellPin .address - first))
+takesCount s first raw = isWritten first (raw .count) cellPin && countTaken (s .registers) (cellPin .address) (valueIn (byteOf raw) (cellPin .address - first))
 
 pub record LeavesAsWritten (s : State) (first : ℕ) (raw : Raw) (t : State) : Type 0 where
   -- "other fields are only stored": each stored field of the run has its code, every other stands
   pub stored : (i : ℕ) → isStored (fieldAt i .access) ≡ true
-      → fieldOf (fieldAt i) (t .registers) ≡ pick (within first (raw .count) (fieldAt i)) (codeIn (byteOf raw) first (fieldAt i)) (fieldOf (fieldAt i) (s .registers))
+      → fieldOf (fieldAt i) (t .registers) ≡ pick (isWritten first (raw .count) (fieldAt i)) (writtenCode (byteOf raw) first (fieldAt i)) (fieldOf (fieldAt i) (s .registers))
   -- each field that is a setting has its code's value, every other stands; but VREG and VSYSMIN by the CELL_PIN rule, where a count is taken
   pub settings : (i n step : ℕ) → fieldAt i .access ≡ Setting n step → (takesCount s first raw ≡ false) ⊎ ((n ≡ 1 → ⊥) × (n ≡ 6 → ⊥))
-      → heldOf (t .settings) n ≡ pick (within first (raw .count) (fieldAt i)) (codeIn (byteOf raw) first (fieldAt i) * step) (heldOf (s .settings) n)
+      → heldOf (t .settings) n ≡ pick (isWritten first (raw .count) (fieldAt i)) (writtenCode (byteOf raw) first (fieldAt i) * step) (heldOf (s .settings) n)
   -- the count
-  pub cells : t .registers .cells ≡ pick (takesCount s first raw) (codeIn (byteOf raw) first cellPin) (s .registers .cells)
+  pub cells : t .registers .cells ≡ pick (takesCount s first raw) (writtenCode (byteOf raw) first cellPin) (s .registers .cells)
 
 abbrev pub RunsReadBack : Type 0
-RunsReadBack = (s : State) (first : ℕ) (raw : Raw) (t : State) → stateOk s ≡ true → runOf s first raw ≡ accepted t → LeavesAsWritten s first raw t
+RunsReadBack = (s : State) (first : ℕ) (raw : Raw) (t : State) → stateOk s ≡ true → writeRunOf s first raw ≡ accepted t → LeavesAsWritten s first raw t
