@@ -182,6 +182,42 @@ enum {
     CHEUKDANE_SETTING_MASKS = 14     /* flag bits that give no pulse */
 };
 
+/* Registers, by address. A register of one field has the field's name, another the data sheet's for the register. Those
+ * of 16 bits have their upper byte at the next address. docs/REGISTERS.md has the fields of each. */
+enum {
+    CHEUKDANE_REGISTER_VSYSMIN = 0x00,                  /* 16 bits */
+    CHEUKDANE_REGISTER_ICHG = 0x02,                     /* 16 bits */
+    CHEUKDANE_REGISTER_VREG = 0x04,                     /* 16 bits */
+    CHEUKDANE_REGISTER_IINDPM = 0x06,                   /* 16 bits */
+    CHEUKDANE_REGISTER_VINDPM = 0x08,                   /* 16 bits */
+    CHEUKDANE_REGISTER_IIN_REV = 0x0A,                  /* 16 bits */
+    CHEUKDANE_REGISTER_VIN_REV = 0x0C,                  /* 16 bits */
+    CHEUKDANE_REGISTER_IPRECHG = 0x0E,
+    CHEUKDANE_REGISTER_ITERM = 0x0F,
+    CHEUKDANE_REGISTER_PRECHARGE_AND_TERMINATION_CONTROL = 0x10, /* REG_RST is bit 7 */
+    CHEUKDANE_REGISTER_TIMER_CONTROL = 0x11,
+    CHEUKDANE_REGISTER_CHARGER_CONTROL_1 = 0x12,        /* WD_RST is bit 2 */
+    CHEUKDANE_REGISTER_CHARGER_CONTROL_2 = 0x13,
+    CHEUKDANE_REGISTER_CHARGER_CONTROL_3 = 0x14,
+    CHEUKDANE_REGISTER_CHARGER_CONTROL_4 = 0x15,
+    CHEUKDANE_REGISTER_CONVERTER_CONTROL_1 = 0x16,      /* FSW is bits 2:0 */
+    CHEUKDANE_REGISTER_MPPT_CONTROL = 0x17,
+    CHEUKDANE_REGISTER_TS_CHARGING_THRESHOLD_CONTROL = 0x18,
+    CHEUKDANE_REGISTER_TS_CHARGING_BEHAVIOR_CONTROL = 0x19,
+    CHEUKDANE_REGISTER_TS_REVERSE_MODE_THRESHOLD_CONTROL = 0x1A,
+    CHEUKDANE_REGISTER_PIN_DETECTION_STATUS_1 = 0x1B,   /* CELL_PIN is bits 2:0 */
+    CHEUKDANE_REGISTER_PIN_DETECTION_STATUS_2 = 0x1C,
+    CHEUKDANE_REGISTER_CHARGER_STATUS_1 = 0x1D,
+    CHEUKDANE_REGISTER_CHARGER_STATUS_2 = 0x1E,
+    CHEUKDANE_REGISTER_FAULT_STATUS = 0x1F,
+    CHEUKDANE_REGISTER_CHARGER_FLAG = 0x20,             /* flags 0 to 7 */
+    CHEUKDANE_REGISTER_FAULT_FLAG = 0x21,               /* flags 8 to 11 */
+    CHEUKDANE_REGISTER_CHARGER_MASK = 0x22,
+    CHEUKDANE_REGISTER_FAULT_MASK = 0x23,
+    CHEUKDANE_REGISTER_ICO_IINDPM = 0x24,               /* 16 bits */
+    CHEUKDANE_REGISTER_PART_INFORMATION = 0x26
+};
+
 /* Bits of a sample, the last number of an observation. */
 enum {
     CHEUKDANE_BIT_CE_HIGH = 1,

@@ -2,19 +2,47 @@
 //! there are no others: a name that is missing, added or misnumbered fails.
 
 use reference::generate::events_of;
+use reference::map::FIELDS;
 use reference::pins::code_of;
 use reference::state::phase;
 use reference::{edges, event, Event, Refusal, Sample, Setting};
 
 const HEADER: &str = include_str!("../../../include/cheukdane.h");
 
+/// The registers of more than one field, by the data sheet's list.
+const SHEETS: [&str; 21] = [
+    "PRECHARGE_AND_TERMINATION_CONTROL",
+    "TIMER_CONTROL",
+    "CHARGER_CONTROL_1",
+    "CHARGER_CONTROL_2",
+    "CHARGER_CONTROL_3",
+    "CHARGER_CONTROL_4",
+    "CONVERTER_CONTROL_1",
+    "MPPT_CONTROL",
+    "TS_CHARGING_THRESHOLD_CONTROL",
+    "TS_CHARGING_BEHAVIOR_CONTROL",
+    "TS_REVERSE_MODE_THRESHOLD_CONTROL",
+    "PIN_DETECTION_STATUS_1",
+    "PIN_DETECTION_STATUS_2",
+    "CHARGER_STATUS_1",
+    "CHARGER_STATUS_2",
+    "FAULT_STATUS",
+    "CHARGER_FLAG",
+    "FAULT_FLAG",
+    "CHARGER_MASK",
+    "FAULT_MASK",
+    "PART_INFORMATION",
+];
+
 /// The header's enumerators whose names start with `CHEUKDANE_` and `start`.
 fn named(start: &str) -> Vec<(String, u32)> {
     let named = HEADER.lines().filter_map(|line| {
         let rest = line.trim().strip_prefix("CHEUKDANE_")?.strip_prefix(start)?;
         let (name, value) = rest.split_once(" = ")?;
-        let digits: String = value.chars().take_while(char::is_ascii_digit).collect();
-        Some((name.to_string(), digits.parse().expect("a number")))
+        let (digits, radix) = value.strip_prefix("0x").map_or((value, 10), |hex| (hex, 16));
+        let end = digits.find(|digit: char| !digit.is_digit(radix)).unwrap_or(digits.len());
+        let number = u32::from_str_radix(&digits[..end], radix).expect("a number");
+        Some((name.to_string(), number))
     });
     named.collect()
 }
@@ -80,6 +108,21 @@ fn settings() {
     let wanted: Vec<(String, u32)> =
         Setting::ALL.iter().map(|one| (upper(&format!("{one:?}")), one.number())).collect();
     assert_eq!(named("SETTING_"), wanted);
+}
+
+/// Every address at which fields begin. The registers' own names are those of
+/// the data sheet's list; one of a single field has the field's.
+#[test]
+fn registers() {
+    let mut wanted: Vec<(&str, u32)> = FIELDS
+        .chunk_by(|one, other| one.address == other.address)
+        .map(|fields| (if fields.len() == 1 { fields[0].name } else { "" }, fields[0].address))
+        .collect();
+    for ((name, _), sheets) in wanted.iter_mut().filter(|row| row.0.is_empty()).zip(SHEETS) {
+        *name = sheets;
+    }
+    assert_eq!(wanted.len(), 31);
+    are("REGISTER_", &wanted);
 }
 
 #[test]
