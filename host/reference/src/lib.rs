@@ -7,8 +7,8 @@
 //! * [`number`], [`record`], [`event`]: the log's spelling.
 //! * [`model`], [`state`], [`hold`], [`settle`], [`edges`]: one event on one
 //!   model.
-//! * [`pins`], [`settings`], [`registers`], [`stored`], [`volts`]: what the
-//!   host sets; [`map`]: where it stands in the registers.
+//! * [`pins`], [`settings`], [`registers`], [`runs`], [`stored`], [`volts`]:
+//!   what the host sets; [`map`]: where it stands in the registers.
 //! * [`mod@report`], [`mod@band`]: what the model shows.
 //! * [`run`], [`mod@part`]: whole logs.
 //! * [`generate`]: logs and models made from a seed, for comparisons.
@@ -31,6 +31,7 @@ pub mod refusal;
 pub mod registers;
 pub mod report;
 pub mod run;
+pub mod runs;
 pub mod settings;
 pub mod settle;
 pub mod state;
@@ -38,7 +39,7 @@ pub mod stored;
 pub mod volts;
 
 pub use band::{band, Band};
-pub use event::{Event, Profile, Resistors, Sample};
+pub use event::{Event, Profile, Resistors, Run, Sample};
 pub use hold::may_hold;
 pub use model::{Model, Step};
 pub use part::{part, partlog, Parting};

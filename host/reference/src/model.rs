@@ -3,7 +3,9 @@
 use crate::edges::{edges, WATCHDOG_EXPIRED};
 use crate::event::{Event, Profile, Resistors};
 use crate::hold::{may_hold, profile_in_range, resistors_in_range};
+use crate::map;
 use crate::refusal::Refusal;
+use crate::registers::flags_at;
 use crate::settle::{settle, Cause};
 use crate::state::State;
 
@@ -28,7 +30,8 @@ pub struct Step {
     pub model: Model,
     /// Whether the event pulses.
     pub pulse: bool,
-    /// The flags that the event handed back (kind 4), else 0.
+    /// What the event handed back: the flags (kind 4), or the flag register's
+    /// byte (kind 14); else 0.
     pub handed: u32,
 }
 
@@ -103,12 +106,24 @@ fn stepped(before: &State, event: &Event) -> Result<Accepted, Refusal> {
     settle(&mut state, cause_of(event, before));
     let edges = edges(before, &state);
     state.flags |= edges;
-    // Kind 4 settles as any other event does; only then are all flags taken.
-    let handed = match event {
-        Event::TakeFlags => std::mem::take(&mut state.flags),
-        _ => 0,
-    };
+    let handed = hand_back(event, &mut state);
     Ok(Accepted { state, pulse: state.pulses(edges), handed })
+}
+
+/// What an event hands back, and clears, of a state that it has settled. Kinds
+/// 4 and 14 settle as any other event does; only then are flags taken: by kind
+/// 4 all of them, by kind 14 the register's own, of which it hands back "the
+/// register's byte, not the flags' number".
+pub fn hand_back(event: &Event, state: &mut State) -> u32 {
+    match event {
+        Event::TakeFlags => std::mem::take(&mut state.flags),
+        Event::ReadFlags { address } => {
+            let byte = map::byte(state, *address);
+            state.flags &= !flags_at(*address).unwrap_or(0);
+            byte.into()
+        }
+        _ => 0,
+    }
 }
 
 fn cause_of(event: &Event, before: &State) -> Cause {

@@ -10,9 +10,11 @@ pub enum Refusal {
     NotShortest = 2,
     /// Five groups all have the high bit, or the value is above 4,294,967,295.
     TooLarge = 3,
-    /// The kind is not 1-7 or 9.
+    /// The kind is not 1-9 or 14.
     UnknownKind = 4,
-    /// A number is outside its range, or a handed-in model's field is.
+    /// A number is outside its range, or a handed-in model's field is. Of the
+    /// log reader: a run's length is not 1-32; of an event, that it has no
+    /// spelling.
     OutOfRange = 5,
     /// Any kind but a power-on's, before a power-on.
     NotPowered = 6,
@@ -22,7 +24,8 @@ pub enum Refusal {
     UnknownSetting = 8,
     /// The setting's value is outside its range or off its step.
     SettingValue = 9,
-    /// A written address is not 0x15-0x1C.
+    /// A written address is not 0x15-0x1C; of a run, an address is outside the
+    /// map; of a read that clears, it is no flag register's.
     UnknownAddress = 10,
     /// FSW (0x16 bits 2:0) is written 0 or 7.
     Frequency = 11,
@@ -32,6 +35,8 @@ pub enum Refusal {
     InputTooLong = 13,
     /// Two logs part.
     LogsPart = 14,
+    /// A run has half of a sixteen-bit register.
+    HalfRegister = 15,
 }
 
 impl Refusal {
@@ -44,8 +49,8 @@ impl Refusal {
 /// A refusal and the place it belongs to.
 ///
 /// Of 1, 2 and 3 it is "the offset of the byte that decided it"; "Refusals 4
-/// and 14 keep the record's start", and so do the model's. "An event given
-/// outside a log has place 0."
+/// and 14 keep the record's start, the reader's 5 the length's"; the model's
+/// have the record's start. "An event given outside a log has place 0."
 #[derive(Clone, Copy, Debug, PartialEq, Eq)]
 pub struct Refused {
     /// Why.

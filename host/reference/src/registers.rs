@@ -1,4 +1,5 @@
-//! The host's reads of any address, and its writes of 0x15-0x1C (kind 3).
+//! The host's reads of any address, those of a flag register that clear it
+//! (kind 14), and its writes of 0x15-0x1C (kind 3).
 
 use crate::map;
 use crate::model::Model;
@@ -15,6 +16,10 @@ pub const LAST: u32 = 0x1C;
 const FREQUENCY: u32 = 0x16;
 const PINS_1: u32 = 0x1B;
 
+/// The flag registers.
+const CHARGER_FLAG: u32 = 0x20;
+const FAULT_FLAG: u32 = 0x21;
+
 /// 0x1B bits 2:0.
 const CELL_COUNT: u8 = 0x07;
 
@@ -25,6 +30,22 @@ pub fn read_register(model: &Model, address: u32) -> Result<u8, Refusal> {
         Model::Off => Err(Refusal::NotPowered),
         Model::On(state) => Ok(map::byte(state, address)),
     }
+}
+
+/// The flags that a read of a flag register clears, "its own": bits 0-7 for
+/// 0x20, 8-11 for 0x21. No other register has any.
+pub fn flags_at(address: u32) -> Option<u32> {
+    match address {
+        CHARGER_FLAG => Some(0x0FF),
+        FAULT_FLAG => Some(0xF00),
+        _ => None,
+    }
+}
+
+/// Judges the address of a read that clears: "kind 14 on no flag register, is
+/// 10".
+pub fn is_flag_register(address: u32) -> Result<(), Refusal> {
+    flags_at(address).map(|_| ()).ok_or(Refusal::UnknownAddress)
 }
 
 /// Takes a write into a powered model. "Model order: 6, 10, 5, 11 for
@@ -46,7 +67,7 @@ pub fn write(state: &mut State, address: u32, byte: u32) -> Result<(), Refusal> 
 /// "CELL_PIN takes a written count only if CELL_PIN_OVERRIDE stood before
 /// the write": the count is judged before the byte's own override bits are
 /// taken. They are taken whether the count is or not.
-fn take_count(state: &mut State, byte: u8) {
+pub(crate) fn take_count(state: &mut State, byte: u8) {
     let count = u32::from(byte & CELL_COUNT);
     if state.overrides().cell && count != 0 && count != state.pins.cell {
         change_cells(state, count);

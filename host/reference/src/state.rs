@@ -6,6 +6,7 @@ use crate::hold::sample_in_range;
 use crate::pins::{Overrides, Pins};
 use crate::refusal::Refusal;
 use crate::registers;
+use crate::runs;
 use crate::settings::{Setting, Settings};
 use crate::stored::Stored;
 use crate::volts::CellMv;
@@ -261,7 +262,7 @@ impl State {
     /// "Register reset restores start values, from the held codes, and the
     /// resets above, clears overrides, cycle and watchdog count; it leaves
     /// pin codes, flags, comparators and 0x19 bit 7."
-    fn reset(&mut self) {
+    pub(crate) fn reset(&mut self) {
         self.settings = Settings::at_start(&self.pins);
         self.stored = self.stored.reset();
         self.cycle = Cycle::default();
@@ -277,6 +278,8 @@ impl State {
             Event::Observe(sample) => self.observe(sample)?,
             Event::Service => self.watchdog = 0,
             Event::Reset => self.reset(),
+            Event::WriteRun(run) => runs::write(self, run)?,
+            Event::ReadFlags { address } => registers::is_flag_register(*address)?,
         }
         Ok(())
     }

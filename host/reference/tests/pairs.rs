@@ -54,7 +54,7 @@ fn check_pair(first: &[u8], second: &[u8]) -> Answer {
 fn pairs_reach_every_answer() {
     let mut codes = BTreeSet::new();
     let mut sides = [false; 3];
-    for seed in 0..times(SEEDS) {
+    for seed in 0..times(2_000) {
         let (first, second) = log_pair(seed, 20);
         match check_pair(&first, &second) {
             Answer::Rest { which: Which::First, place } => {
@@ -65,7 +65,7 @@ fn pairs_reach_every_answer() {
         }
     }
     assert_eq!(sides, [true; 3]);
-    assert_eq!(codes, BTreeSet::from([1, 2, 3, 4, 14]));
+    assert_eq!(codes, BTreeSet::from([1, 2, 3, 4, 5, 14]));
 }
 
 /// A damaged log beside each of its starts: often neither can be read, each at

@@ -185,19 +185,30 @@ fn small_spellings() {
 
 /// "the offset of the byte that decided it: the log's end for 1, the last
 /// group for 2, the fifth group for 3", in the program's last line and in the
-/// two-log answer; "Refusals 4 and 14 keep the record's start".
+/// two-log answer; "Refusals 4 and 14 keep the record's start, the reader's 5
+/// the length's".
 #[test]
 fn the_byte_that_decided_it() {
-    let rows: [(&[u8], u32, usize); 9] = [
+    let rows: [(&[u8], u32, usize); 19] = [
         (&[5], 1, 29),
         (&[5, 0xE8, 0x07, 0xE0], 1, 32),
         (&[2, 0x81, 0x80, 0x00, 7], 2, 31),
         (&[2, 9, 0x80, 0x80, 0x80, 0x80, 0x00], 2, 34),
         (&[2, 9, 0x80, 0x80, 0x80, 0x80, 0x10, 7], 3, 34),
         (&[2, 0xFF, 0xFF, 0xFF, 0xFF, 0xFF], 3, 33),
-        (&[8, 0x80, 0x00], 4, 28),
+        (&[8, 0x80, 0x00], 2, 30),
+        (&[8], 1, 29),
+        (&[8, 0x90], 1, 30),
+        (&[8, 0x10], 1, 30),
+        (&[8, 0x10, 0x00, 7], 5, 30),
+        (&[8, 0x10, 0x21, 7], 5, 30),
+        (&[8, 0x90, 0x01, 0xA0, 0x01, 7], 5, 31),
+        (&[8, 0x10, 0x81, 0x00, 7], 2, 31),
+        (&[8, 0x10, 0xFF, 0xFF, 0xFF, 0xFF, 0x10], 3, 34),
+        (&[8, 0x10, 0x02, 0x80], 1, 32),
         (&[9, 0x80, 0x00], 2, 30),
         (&[10, 0x80, 0x00], 4, 28),
+        (&[14, 0xA0], 1, 30),
     ];
     let longer = [EXAMPLE.as_slice(), &[7; 20]].concat();
     for (end, code, place) in rows {

@@ -8,6 +8,8 @@ use reference::record::{self, Reader, Reading};
 use reference::{number, Refusal, Refused};
 
 const HIGH_BIT: u8 = 0x80;
+/// The kind of a run of written bytes.
+const RUN: u8 = 8;
 /// From this on a fifth group is worth 2^32 or more.
 const TOO_LARGE: u8 = 0x10;
 
@@ -37,10 +39,26 @@ fn check(rng: &mut Rng, log: &[u8], start: usize, Refused { code, place }: Refus
             assert!(log[place] >= TOO_LARGE, "{start} of {log:02X?}");
             assert_eq!(groups(log, start, place), 4, "{start} of {log:02X?}");
         }
-        Refusal::UnknownKind => assert!(place == start && !matches!(log[start], 1..=7 | 9)),
+        Refusal::UnknownKind => assert!(place == start && !matches!(log[start], 1..=9 | 14)),
+        Refusal::OutOfRange => return check_length(rng, log, start, place),
         _ => panic!("{code:?} isn't the reader's"),
     }
     check_decided(rng, log, start, Refused { code, place });
+}
+
+/// "The reader's 5: the first byte of the length number", a number that
+/// can be read and isn't 1-32. It ends the bytes that decide.
+fn check_length(rng: &mut Rng, log: &[u8], start: usize, place: usize) {
+    assert_eq!((log[start], numbers(log, start, place)), (RUN, 1), "{start} of {log:02X?}");
+    let (length, next) = number::read(log, place).expect("a length");
+    assert!(!(1..=32).contains(&length), "{start} of {log:02X?}");
+    for tail in any_tails(rng, &log[next..]) {
+        let other = [&log[..next], &tail].concat();
+        assert_eq!(record::read(&other, start), refused(Refusal::OutOfRange, place));
+    }
+    for cut in place..next {
+        assert_eq!(record::read(&log[..cut], start), refused(Refusal::EndsInside, cut));
+    }
 }
 
 /// "the log's end for 1". A longer log may be refused otherwise, by a last
@@ -50,13 +68,40 @@ fn check_end(log: &[u8], start: usize, place: usize) {
     for length in start + 1..place {
         assert_eq!(record::read(&log[..length], start), refused(Refusal::EndsInside, length));
     }
+    match (log[start], numbers(log, start, place)) {
+        (RUN, 0) => check_end_of_number(log, start, place, &[1; 34]),
+        (RUN, 1) if groups(log, start, place) == 0 => {
+            check_end_of_number(log, start, place, &[1; 34]);
+        }
+        // A length of more groups than one is above 127, or ends with a zero group.
+        (RUN, 1) => {}
+        (RUN, _) => check_end_of_raw(log, start),
+        _ => check_end_of_number(log, start, place, &[0; 10]),
+    }
+}
+
+/// A log that ends inside raw bytes: any that are missing make it whole.
+fn check_end_of_raw(log: &[u8], start: usize) {
+    let (_, at) = number::read(log, start + 1).expect("an address");
+    let (length, raw) = number::read(log, at).expect("a length");
+    let next = raw + length as usize;
+    assert!((1..=32).contains(&length) && next > log.len(), "{start} of {log:02X?}");
+    for missing in [0x00, 0x80, 0xFF] {
+        let whole = [log, &vec![missing; next - log.len()]].concat();
+        let read = record::read(&whole, start);
+        assert!(matches!(read, Reading::Record { next: after, .. } if after == next), "{read:?}");
+    }
+}
+
+/// A log that ends inside a number, or before one; `rest` makes it whole.
+fn check_end_of_number(log: &[u8], start: usize, place: usize, rest: &[u8]) {
     let zero = [log, &[HIGH_BIT, 0]].concat();
     let other = match groups(log, start, place) {
         4 => refused(Refusal::TooLarge, place),
         _ => refused(Refusal::NotShortest, place + 1),
     };
     assert_eq!(record::read(&zero, start), other, "{start} of {log:02X?}");
-    let whole = [log, &[1], &[0; 10]].concat();
+    let whole = [log, &[1], rest].concat();
     assert!(matches!(record::read(&whole, start), Reading::Record { .. }), "{whole:02X?}");
 }
 
@@ -65,9 +110,8 @@ fn check_end(log: &[u8], start: usize, place: usize) {
 /// inside the record, or has none.
 fn check_decided(rng: &mut Rng, log: &[u8], start: usize, Refused { code, place }: Refused) {
     let (decided, rest) = log.split_at(place + 1);
-    let any: Vec<u8> = (0..rng.place(12)).map(|_| rng.any() as u8).collect();
-    for tail in [&[], rest, &any, &[0], &[1; 50], &[HIGH_BIT], &[0xFF; 6]] {
-        let other = [decided, tail].concat();
+    for tail in any_tails(rng, rest) {
+        let other = [decided, &tail].concat();
         assert_eq!(record::read(&other, start), refused(code, place), "{start} of {other:02X?}");
     }
     let without = match code {
@@ -75,6 +119,12 @@ fn check_decided(rng: &mut Rng, log: &[u8], start: usize, Refused { code, place 
         _ => refused(Refusal::EndsInside, place),
     };
     assert_eq!(record::read(&log[..place], start), without, "{start} of {log:02X?}");
+}
+
+/// What may follow in a log: `rest`, nothing, and other bytes.
+fn any_tails(rng: &mut Rng, rest: &[u8]) -> [Vec<u8>; 7] {
+    let any: Vec<u8> = (0..rng.place(12)).map(|_| rng.any() as u8).collect();
+    [vec![], rest.to_vec(), any, vec![0], vec![1; 50], vec![HIGH_BIT], vec![0xFF; 6]]
 }
 
 /// Reads a log from every byte on; gives which refusals were met.
@@ -97,7 +147,7 @@ fn the_byte_that_decided_it() {
         met.extend(check_all(&mut rng, &damaged_log(seed, 12)));
         met.extend(check_all(&mut rng, &any_log(seed, 6)));
     }
-    assert_eq!(met, BTreeSet::from([1, 2, 3, 4]));
+    assert_eq!(met, BTreeSet::from([1, 2, 3, 4, 5]));
 }
 
 /// Bytes at which numbers are judged otherwise.
@@ -144,6 +194,9 @@ fn spot(log: &[u8]) -> Option<Spot> {
             }
             Reading::Refused(Refused { code, place }) => {
                 let number = numbers(log, start, place);
+                if (log[start], code) == (RUN, Refusal::EndsInside) && number >= 2 {
+                    return Some((code.number(), RUN, 2, 0));
+                }
                 return Some((code.number(), log[start], number, groups(log, start, place)));
             }
         }
@@ -151,11 +204,12 @@ fn spot(log: &[u8]) -> Option<Spot> {
 }
 
 /// Each number of each kind that has any: cut off after none to four groups,
-/// with a group of zero after one to four, and with a fifth that is too large.
+/// with a group of zero after one to four, and with a fifth that is too large;
+/// a run's length that is another, and its raw bytes cut off.
 #[test]
 fn damaged_logs_reach_every_spot() {
-    let mut wanted = BTreeSet::new();
-    for (kind, count) in [(1, 10), (2, 2), (3, 2), (5, 6), (9, 10)] {
+    let mut wanted = BTreeSet::from([(5, RUN, 1, 0), (1, RUN, 2, 0)]);
+    for (kind, count) in [(1, 10), (2, 2), (3, 2), (5, 6), (RUN, 2), (9, 10), (14, 1)] {
         for number in 0..count {
             wanted.extend((0..=4).map(|groups| (1, kind, number, groups)));
             wanted.extend((1..=4).map(|groups| (2, kind, number, groups)));

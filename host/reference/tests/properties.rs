@@ -180,7 +180,7 @@ fn plausible_logs_reach_every_part_of_the_model() {
     assert_eq!(seen.stats.len(), 3);
     assert_eq!(seen.flags, 4_095);
     assert!(seen.wrapped);
-    assert_eq!(seen.refusals, BTreeSet::from([0, 5, 6, 7, 8, 9, 10, 11]));
+    assert_eq!(seen.refusals, BTreeSet::from([0, 5, 6, 7, 8, 9, 10, 11, 15]));
     let possible = BTreeSet::from([
         (1, true),
         (1, false),
@@ -194,8 +194,11 @@ fn plausible_logs_reach_every_part_of_the_model() {
         (6, false),
         (7, true),
         (7, false),
+        (8, true),
+        (8, false),
         (9, true),
         (9, false),
+        (14, false),
     ]);
     assert_eq!(seen.kinds, possible);
     let charge = [(0, 1), (1, 2), (2, 3), (3, 4), (4, 5), (5, 3), (4, 6), (6, 5), (3, 7), (7, 0)];
@@ -233,7 +236,7 @@ fn damaged_logs_reach_every_refusal_of_the_reader() {
         codes.insert(words[2].to_string());
         assert!(statelog(&log, 0..=map::LAST).lines().count() <= records);
     }
-    assert_eq!(codes.into_iter().collect::<String>(), "01234");
+    assert_eq!(codes.into_iter().collect::<String>(), "012345");
 }
 
 #[test]

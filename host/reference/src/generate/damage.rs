@@ -3,7 +3,8 @@
 use std::ops::Range;
 
 use super::rng::Rng;
-use crate::number::MOST_GROUPS;
+use crate::event::Event;
+use crate::number::{append, MOST_GROUPS};
 use crate::record::{Reader, Reading};
 
 const HIGH_BIT: u8 = 0x80;
@@ -15,8 +16,8 @@ pub(super) fn damage(rng: &mut Rng, log: &mut Vec<u8>) {
         return;
     }
     let at = rng.place(log.len());
-    let odd = rng.pick(&[0x00, 0x80, 0xFF, 0x08, 0x09, 0x0A, 0x7F, 0x05]);
-    match rng.within(0, 8) {
+    let odd = rng.pick(&[0x00, 0x80, 0xFF, 0x08, 0x09, 0x0A, 0x0E, 0x7F, 0x05]);
+    match rng.within(0, 9) {
         0 => log.truncate(at),
         1 => log[at] ^= 1 << rng.within(0, 7),
         2 => log[at] = rng.any() as u8,
@@ -24,6 +25,7 @@ pub(super) fn damage(rng: &mut Rng, log: &mut Vec<u8>) {
         4 => log.insert(at, odd),
         5 => drop(log.remove(at)),
         6 => lengthen(rng, log),
+        7 => relength(rng, log),
         _ => misspell(rng, log),
     }
 }
@@ -44,7 +46,7 @@ fn lengthen(rng: &mut Rng, log: &mut Vec<u8>) {
 /// Misspells a number of some record: cut off with the log, with a last group
 /// of zero, or too large. All numbers of a kind are equally likely.
 fn misspell(rng: &mut Rng, log: &mut Vec<u8>) {
-    let kind = rng.pick(&[1, 1, 1, 2, 3, 5, 5, 9, 9, 9]);
+    let kind = rng.pick(&[1, 1, 1, 2, 3, 5, 5, 8, 9, 9, 9, 14]);
     let found = numbers(log, kind);
     if found.is_empty() {
         return lengthen(rng, log);
@@ -68,6 +70,27 @@ fn respell(log: &mut Vec<u8>, at: Range<usize>, group: u8, groups: usize, last: 
     log.splice(at, [vec![group; groups], vec![last]].concat());
 }
 
+/// Gives a run of written bytes another length, in its range or out of it, or
+/// cuts its bytes off with the log.
+fn relength(rng: &mut Rng, log: &mut Vec<u8>) {
+    let lengths: Vec<Range<usize>> = numbers(log, 8).into_iter().skip(1).step_by(2).collect();
+    if lengths.is_empty() {
+        return lengthen(rng, log);
+    }
+    let at = lengths[rng.place(lengths.len())].clone();
+    let kept = rng.place(usize::from(log[at.start]));
+    let free = rng.any_length();
+    let other = match rng.within(0, 3) {
+        0 => return log.truncate(at.end + kept),
+        1 => rng.within(1, 32),
+        2 => rng.pick(&[0, 33]),
+        _ => rng.pick(&[0, 33, 64, 127, 128, 129, 160, 256, 288, u32::MAX, free]),
+    };
+    let mut spelled = Vec::new();
+    append(other, &mut spelled);
+    log.splice(at, spelled);
+}
+
 /// Where the numbers stand of the records of one kind, as far as the log can
 /// be read.
 fn numbers(log: &[u8], kind: u8) -> Vec<Range<usize>> {
@@ -79,10 +102,18 @@ fn numbers(log: &[u8], kind: u8) -> Vec<Range<usize>> {
             return found;
         };
         if event.kind() == kind {
-            for number in log[at..next].split_inclusive(|byte| byte & HIGH_BIT == 0) {
+            for number in log[at..next - raw(&event)].split_inclusive(|byte| byte & HIGH_BIT == 0) {
                 found.push(at..at + number.len());
                 at += number.len();
             }
         }
+    }
+}
+
+/// How many raw bytes an event's record ends with.
+fn raw(event: &Event) -> usize {
+    match event {
+        Event::WriteRun(run) => run.length as usize,
+        _ => 0,
     }
 }

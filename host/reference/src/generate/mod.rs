@@ -6,8 +6,8 @@
 //! * [`damaged_log`]: a plausible log with bytes changed, cut or put in, or a
 //!   number misspelled.
 //! * [`log_pair`]: two logs that share a start.
-//! * [`any_event`], [`any_resistors`]: single events, in their ranges and out
-//!   of them.
+//! * [`any_event`], [`any_resistors`], [`any_run`]: single events, in their
+//!   ranges and out of them; [`unspelled_run`]: such as have no spelling.
 //! * [`any_state`], [`spoiled_state`]: models handed in from outside.
 
 use crate::event::Event;
@@ -18,11 +18,13 @@ mod damage;
 mod probe;
 mod records;
 mod rng;
+mod runs;
 mod states;
 mod walk;
 
 pub use records::{any_event, any_resistors};
 pub use rng::Rng;
+pub use runs::{any_run, unspelled_run};
 pub use states::{any_state, spoiled_state};
 
 use damage::damage;

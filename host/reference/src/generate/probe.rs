@@ -2,9 +2,10 @@
 
 use super::aim::share_of;
 use super::records::{edge_of_profile, edge_of_sample, power_on, soldered, span};
+use super::runs::{held_bytes, put};
 use super::walk::Walk;
 use super::MOST_MV;
-use crate::event::{Event, Profile, Sample, HIZ_PIN, SHUTDOWN};
+use crate::event::{Event, Profile, Run, Sample, HIZ_PIN, SHUTDOWN};
 use crate::settings::Setting;
 use crate::settle::{base_voltage, charge_voltage};
 use crate::state::State;
@@ -22,7 +23,7 @@ impl Walk {
     /// One episode, begun where a charge is permitted.
     pub(super) fn probe(&mut self) {
         self.permit();
-        match self.rng.within(0, 12) {
+        match self.rng.within(0, 15) {
             0 => self.probe_vin(),
             1 => self.probe_short(),
             2..=4 => self.probe_low(),
@@ -32,6 +33,9 @@ impl Walk {
             9 => self.probe_cells(),
             10 => self.probe_hiz_pin(),
             11 => self.probe_masks(),
+            12 => self.probe_run_cells(),
+            13 => self.probe_run_resets(),
+            14 => self.probe_run_serves(),
             _ => self.probe_done_in_fault(),
         }
     }
@@ -189,6 +193,60 @@ impl Walk {
             self.give(Event::Reset);
         } else {
             self.set_to(Setting::EnChg, 1);
+        }
+    }
+
+    /// Writes registers as they are read, but for some fields.
+    fn run_of(&mut self, first: usize, last: usize, fields: &[(&str, u32)]) {
+        let Some(state) = self.state() else { return };
+        let mut bytes = held_bytes(&state);
+        for (name, code) in fields {
+            put(&mut bytes, name, *code);
+        }
+        self.give(Event::WriteRun(Run::new(first as u32, &bytes[first..=last])));
+    }
+
+    /// A count beside the settings that it moves, in one run, with its override
+    /// standing or not, and kept or not.
+    fn probe_run_cells(&mut self) {
+        let allowed = self.rng.pick(&[0x40, 0x40, 0xC0, 0x00]);
+        self.write_to(0x1B, allowed);
+        let count = self.rng.within(0, 7);
+        let kept = self.rng.within(0, 1);
+        let fields = [
+            ("VREG", self.rng.within(240, 3_300)),
+            ("VSYSMIN", self.rng.within(150, 1_400)),
+            ("CELL_PIN", count),
+            ("CELL_PIN_OVERRIDE", kept),
+            ("REG_RST", u32::from(self.rng.once_in(4))),
+        ];
+        let first = self.rng.pick(&[0x00, 0x04, 0x10, 0x1B]);
+        self.run_of(first, 0x1B, &fields);
+    }
+
+    /// A run with a reset bit, at a battery voltage where its other bytes alone
+    /// would move a comparator, the phase or done.
+    fn probe_run_resets(&mut self) {
+        let share = self.rng.pick(&[700, 990, 1_000]);
+        self.see(|sample, state| sample.vbat = share_of(base_voltage(state), share).min(MOST_MV));
+        let fields = [
+            ("VREG", self.rng.pick(&[240, 500, 800, 3_300])),
+            ("VBAT_LOWV", self.rng.within(0, 3)),
+            ("EN_CHG", self.rng.within(0, 1)),
+            ("REG_RST", 1),
+            ("WD_RST", self.rng.within(0, 1)),
+        ];
+        let last = self.rng.pick(&[0x10, 0x12, 0x13, 0x19, 0x23]);
+        self.run_of(0x04, last, &fields);
+    }
+
+    /// A run with the service bit and one without it, once time has gone by.
+    fn probe_run_serves(&mut self) {
+        self.see(|sample, _| sample.stamp = sample.stamp.wrapping_add(500));
+        let served = self.rng.within(0, 1);
+        for bit in [served, 1 - served] {
+            let last = self.rng.pick(&[0x12, 0x13, 0x17]);
+            self.run_of(0x12, last, &[("WD_RST", bit)]);
         }
     }
 

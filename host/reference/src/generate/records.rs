@@ -1,14 +1,15 @@
 //! Records of any numbers, in their ranges and out of them.
 
 use super::rng::Rng;
+use super::runs::{any_flag_register, any_run};
 use super::{MOST_MV, MOST_RESISTOR, MOST_TS};
 use crate::event::{Event, Profile, Resistors, Sample};
 use crate::pins::{code_of, RESISTORS};
 use crate::state::MOST_AHEAD_MS;
 
-/// Any event at all: ranges are often kept, and often not.
+/// Any event at all that has a spelling: ranges are often kept, and often not.
 pub fn any_event(rng: &mut Rng) -> Event {
-    match rng.within(1, 10) {
+    match rng.within(1, 12) {
         1 => Event::PowerOn(any_profile(rng)),
         2 => Event::Set { number: small_or_any(rng, 15), value: any_value(rng) },
         3 => Event::Write { address: any_address(rng), byte: small_or_any(rng, 256) },
@@ -16,6 +17,8 @@ pub fn any_event(rng: &mut Rng) -> Event {
         5 => Event::Service,
         6 => Event::Reset,
         7 => Event::PowerOnResistors(any_resistors(rng)),
+        8 => Event::WriteRun(any_run(rng)),
+        9 => Event::ReadFlags { address: any_flag_register(rng) },
         _ => Event::Observe(any_sample(rng)),
     }
 }

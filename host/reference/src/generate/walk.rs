@@ -3,6 +3,7 @@
 use super::aim::{around, gap, threshold_of_ts, threshold_of_vbat, threshold_of_vin};
 use super::records::{any_event, any_profile, good_profile, power_on};
 use super::rng::Rng;
+use super::runs::{any_flag_register, held_run};
 use super::MOST_MV;
 use crate::event::{Event, Sample};
 use crate::model::Model;
@@ -49,20 +50,22 @@ impl Walk {
             return self.power_on();
         };
         match self.rng.within(0, 99) {
-            0..=24 => self.charge(),
-            25..=44 => self.observe_at_an_edge(&state),
-            45..=56 => self.probe(),
-            57..=68 => self.set(&state),
-            69..=80 => self.write(),
-            81..=85 => self.give(Event::TakeFlags),
-            86..=88 => self.give(Event::Service),
-            89..=90 => self.give(Event::Reset),
-            91..=92 => self.change_cells(),
-            93 => self.power_on(),
-            94 => self.fault_a_pin(),
-            95..=96 => self.probe_ranges(),
-            97 => self.solder_a_pin(),
-            98 => self.odd_event(),
+            0..=22 => self.charge(),
+            23..=40 => self.observe_at_an_edge(&state),
+            41..=52 => self.probe(),
+            53..=62 => self.set(&state),
+            63..=71 => self.write(),
+            72..=79 => self.write_run(&state),
+            80..=82 => self.give(Event::TakeFlags),
+            83..=85 => self.read_flags(),
+            86..=87 => self.give(Event::Service),
+            88..=89 => self.give(Event::Reset),
+            90..=91 => self.change_cells(),
+            92 => self.power_on(),
+            93 => self.fault_a_pin(),
+            94..=95 => self.probe_ranges(),
+            96 => self.solder_a_pin(),
+            97 => self.odd_event(),
             _ => self.end_a_fault(),
         }
     }
@@ -191,6 +194,17 @@ impl Walk {
             _ => rng.within(0, 255),
         };
         self.give(Event::Write { address, byte });
+    }
+
+    /// Registers as they are read, with some fields changed.
+    fn write_run(&mut self, state: &State) {
+        let run = held_run(&mut self.rng, state);
+        self.give(Event::WriteRun(run));
+    }
+
+    fn read_flags(&mut self) {
+        let address = any_flag_register(&mut self.rng);
+        self.give(Event::ReadFlags { address });
     }
 
     /// Overrides and counts: the override first, mostly.
