@@ -15,10 +15,20 @@
  *
  * `place` is the refusal's place, an offset in the log, and 0 outside one. Of a record that can't be read it is what
  * decided the number: for 1 the log's end, for 2 the zero group, for 3 the fifth group, for 4 the kind's byte, which is
- * the record's start. For 2, 3 and 4 the bytes up to and including that one decide: every log that starts with them is
- * refused with the same number and place, and a log that ends before that byte isn't refused with that number. The
- * model's refusals, 5 to 11, and 14 have the record's start. Where to read on once the log is mended or longer is told
+ * the record's start, for 5 the first byte of a run's length that isn't 1 to 32. For 2, 3 and 4 the bytes up to and
+ * including that one decide, for 5 those up to the length's last: every log that starts with them is refused with the
+ * same number and place, and a log that ends before the place's byte isn't refused with that number. The model's
+ * refusals, 5 to 11 and 15, and 14 have the record's start. Where to read on once the log is mended or longer is told
  * apart, as `next`.
+ *
+ * 5 may be the reader's (such a length, which stops a log as 1 to 4 do), the model's, or the image's. They are told
+ * apart so:
+ *     play       the model's has the record's kind. With kind 0 the reader's has a place above the given one, since the
+ *                kind's byte and the address come before a length, and the image's has the given place.
+ *     replay     the image's is `number`, and then `code` is 0; the reader's is `code`, and then `number` is 0. The
+ *                model's stops nothing.
+ *     compare    it can only be the reader's.
+ * No other call reads a log.
  *
  * In every call that is lent an image, bytes that aren't an image, or are of another length than CHEUKDANE_IMAGE, are 5
  * before all else; then an answer buffer that is too short is 12; then what the call is about is judged. Of an answer
@@ -52,13 +62,14 @@ typedef char cheukdane_size_t_has_64_bits[sizeof(size_t) == 8 ? 1 : -1];
  *   2  the recharge point is a share of the charge voltage, after the warm cut, and not of the voltage before it
  *   3  the place of 1, 2 and 3 is that of the byte that decided it, and not the record's start; replay tells `next`
  *   4  kind 9 is a power-on by its resistors, and not 4
- *   5  the model holds the stored fields of the whole register map, and every address can be read */
-#define CHEUKDANE_RULES 5
+ *   5  the model holds the stored fields of the whole register map, and every address can be read
+ *   6  kind 8 is a run of written bytes and kind 14 a read of a flag register, and neither is 4 */
+#define CHEUKDANE_RULES 6
 
 /* ---- Images ---- */
 
 /* The format of an image: it moves with the rules, so that no model is carried over from other rules. It is never 0. */
-#define CHEUKDANE_FORMAT 5
+#define CHEUKDANE_FORMAT 6
 
 /* Bytes of an image: 55 words. Word 0 is 0 before a power-on, and then all other words are 0 too; after it, it is the
  * format's number, CHEUKDANE_FORMAT, and the state's numbers follow, from these words on; a yes or no is 1 or 0. So
@@ -98,7 +109,11 @@ enum {
     CHEUKDANE_KIND_OBSERVE = 5,    /* stamp; VIN, VBAT in mV; IBAT as CHEUKDANE_IBAT gives it; TS; sample bits */
     CHEUKDANE_KIND_SERVICE = 6,    /* no numbers; services the watchdog */
     CHEUKDANE_KIND_RESET = 7,      /* no numbers; resets the registers */
-    CHEUKDANE_KIND_POWER_ON_RESISTORS = 9 /* as 1, with the CELL, VCHG and ICHG resistors in ohms for the codes */
+    CHEUKDANE_KIND_WRITE_RUN = 8,  /* a run of written bytes: first address, length 1 to 32, raw bytes; as words they
+                                      are laid out by cheukdane_put_run */
+    CHEUKDANE_KIND_POWER_ON_RESISTORS = 9, /* as 1, with the CELL, VCHG and ICHG resistors in ohms for the codes */
+    CHEUKDANE_KIND_READ_FLAGS = 14 /* address of a flag register, 0x20 or 0x21; hands back its byte and clears its own
+                                      flags */
 };
 
 /* Answers: a call's `number`, and `code` of a replay. */
@@ -108,16 +123,20 @@ enum {
     CHEUKDANE_REFUSED_ZERO_GROUP = 2,       /* a number's last group is zero and not the only one */
     CHEUKDANE_REFUSED_TOO_LARGE = 3,        /* a number above 4,294,967,295 */
     CHEUKDANE_REFUSED_UNKNOWN_KIND = 4,     /* no kind has that byte */
-    CHEUKDANE_REFUSED_OUT_OF_RANGE = 5,     /* outside the kind's ranges; or the model doesn't pass; or no image */
+    CHEUKDANE_REFUSED_OUT_OF_RANGE = 5,     /* outside the kind's ranges, a run's length too; or a byte past a run's
+                                               length isn't zero; or the model doesn't pass; or no image */
     CHEUKDANE_REFUSED_NOT_POWERED = 6,      /* there was no power-on yet */
     CHEUKDANE_REFUSED_STAMP_AHEAD = 7,      /* the stamp is more than 3,600,000 ms ahead */
     CHEUKDANE_REFUSED_UNKNOWN_SETTING = 8,  /* no setting has that number */
-    CHEUKDANE_REFUSED_BAD_VALUE = 9,        /* outside the setting's range or off its step */
-    CHEUKDANE_REFUSED_UNKNOWN_ADDRESS = 10, /* a write at an address that isn't 0x15 to 0x1C */
+    CHEUKDANE_REFUSED_BAD_VALUE = 9,        /* outside the setting's range or off its step; by a run's bytes too */
+    CHEUKDANE_REFUSED_UNKNOWN_ADDRESS = 10, /* a write at an address that isn't 0x15 to 0x1C, a run that isn't within
+                                               0x00 to 0x26, or a read of flags that isn't at 0x20 or 0x21 */
     CHEUKDANE_REFUSED_BAD_FREQUENCY = 11,   /* FSW written 0 or 7 */
     CHEUKDANE_REFUSED_NO_ROOM = 12,         /* what is to be written is longer than the room */
     CHEUKDANE_REFUSED_INPUT_TOO_LONG = 13,  /* of runlog and partlog alone: an input above 65,536 bytes */
-    CHEUKDANE_REFUSED_LOGS_PART = 14        /* two logs part */
+    CHEUKDANE_REFUSED_LOGS_PART = 14,       /* two logs part */
+    CHEUKDANE_REFUSED_HALF_REGISTER = 15    /* a run begins with the upper half of a register of 16 bits, or ends with
+                                               the lower */
 };
 
 /* Phases. In 1 to 4 current and voltage are reported, in the others they are 0. */
@@ -230,8 +249,8 @@ enum {
 
 /* ---- Answer buffers ---- */
 
-/* Bytes of what an accepted event shows: phase, current, voltage, input limit, pulse, held flags, and the flags that
- * the event handed back (kind 4). */
+/* Bytes of what an accepted event shows: phase, current, voltage, input limit, pulse, held flags, and what the event
+ * handed back: kind 4 the flags, kind 14 the register's byte, others 0. */
 #define CHEUKDANE_SHOWN 28
 
 /* The words of what is shown. */
@@ -276,6 +295,19 @@ static inline void cheukdane_put_word(uint8_t *bytes, size_t index, uint32_t num
     at[3] = (uint8_t)(number >> 24);
 }
 
+/* Bytes of a run's words, kind 8. */
+#define CHEUKDANE_RUN 40
+
+/* Stores the ten words of a run: first address, length, and the bytes as they are, from byte 8 on, with zeros behind
+ * them. A length above 32 is stored as 33, beside the first 32 bytes; an event of it is 5, as one of length 0 is. */
+static inline void cheukdane_put_run(uint8_t *words, uint32_t address, const uint8_t *bytes, size_t length) {
+    cheukdane_put_word(words, 0, address);
+    cheukdane_put_word(words, 1, length > 32 ? 33 : (uint32_t)length);
+    for (size_t at = 0; at < CHEUKDANE_RUN - 8; at++) {
+        words[8 + at] = at < length ? bytes[at] : 0;
+    }
+}
+
 /* IBAT, in mA, as an event's number: 2n for n >= 0, else -2n-1. The argument is evaluated once. */
 static inline uint32_t cheukdane_ibat(int32_t ma) {
     int64_t wide = ma;
@@ -293,13 +325,13 @@ struct cheukdane_answer {
 struct cheukdane_played {
     uint32_t number;
     uint32_t kind;  /* of the record that was read; 0 if none was */
-    uint64_t place; /* the given place, where the record starts; 1 to 4: the place of what decided it */
+    uint64_t place; /* the given place, where the record starts; of what can't be read, 1 to 5: of what decided it */
     uint64_t next;  /* where the next record starts; the given place if none was read */
 };
 
 struct cheukdane_replayed {
     uint32_t number;
-    uint32_t code;    /* 0 at the log's end; else 1 to 4, of what can't be read */
+    uint32_t code;    /* 0 at the log's end, and with a refusal; else 1 to 5, of what can't be read */
     uint64_t records; /* how many were read; the count has 32 bits and wraps */
     uint64_t place;   /* the log's end; with a code, the place of what decided it */
     uint64_t next;    /* where to go on: the log's end, or where the record that can't be read starts */
@@ -321,7 +353,7 @@ struct cheukdane_compared {
     uint32_t number;
     uint32_t log;    /* whose rest it is: 1 or 2; 0 with a refusal */
     uint64_t record; /* with a refusal, the record's number, from 1; else 0 */
-    uint64_t place;  /* where the rest starts; 14: where the record does; 1 to 4: of what decided it, in its own log */
+    uint64_t place;  /* where the rest starts; 14: where the record does; 1 to 5: of what decided it, in its own log */
 };
 
 /* ---- Calls ---- */
@@ -333,9 +365,9 @@ uint32_t cheukdane_rules(void);
 struct cheukdane_answer cheukdane_off(uint8_t *image, size_t image_length);
 
 /* Plays the record at a place of a log. Accepted: the image is the model after it and `shown` shows it. Refused by the
- * model: 5 to 11, with the kind, and `next` leads on to the next record. Unreadable: 1 to 4 and kind 0; `place` is of
- * what decided it, and `next` the given place. At the log's end or past it: number 0 and kind 0, and no byte is
- * changed. With 5 for the image or 12 no record is looked for: kind 0. */
+ * model: 5 to 11 or 15, with the kind, and `next` leads on to the next record. Unreadable: 1 to 5 and kind 0; `place`
+ * is of what decided it, and `next` the given place. At the log's end or past it: number 0 and kind 0, and no byte is
+ * changed. With 5 for the image or 12 no record is looked for: kind 0, and `place` is the given one. */
 struct cheukdane_played cheukdane_play(uint8_t *image, size_t image_length, const uint8_t *log, size_t log_length,
                                        size_t place, uint8_t *shown, size_t shown_length);
 
@@ -349,8 +381,13 @@ struct cheukdane_played cheukdane_play(uint8_t *image, size_t image_length, cons
 struct cheukdane_replayed cheukdane_replay(uint8_t *image, size_t image_length, const uint8_t *log, size_t log_length,
                                            size_t place);
 
-/* One event outside a log: its kind, and the kind's numbers as words, just as many as it has. An unknown kind is 4;
- * words that aren't as many are 5. */
+/* One event outside a log: its kind, and the kind's numbers as words, just as many as it has. Of a run, kind 8, they
+ * are ten whatever its length. An unknown kind is 4; words that aren't as many are 5. Then the model judges: 5 to 11 or
+ * 15. A run of a length that isn't 1 to 32, or with a byte past its length that isn't zero, is 5, after 6.
+ *
+ * A run is taken whole or not at all, in the order of its addresses, and settled once. A reset bit in it (0x10 bit 7)
+ * acts as kind 7 and a service bit (0x12 bit 2) as kind 6, after all its bytes. Its refusals in their order: 6, 5, 10,
+ * 15, 11, 9, by the written bytes, also beside a reset bit. */
 struct cheukdane_answer cheukdane_event(uint8_t *image, size_t image_length, uint32_t kind, const uint8_t *words,
                                         size_t words_length, uint8_t *shown, size_t shown_length);
 
@@ -360,16 +397,18 @@ struct cheukdane_answer cheukdane_report(const uint8_t *image, size_t image_leng
 
 /* A register's byte, as the data sheet lays it out in its section 6.5; 6 before a power-on. Any address answers:
  * a byte of 0x00 to 0x26, and 0xFF outside. A sixteen-bit register has its lower byte at its address and its upper one
- * at the next. Nothing changes: a flag register shows the held flags and clears none. docs/REGISTERS.md is the map. */
+ * at the next. Nothing changes: a flag register shows the held flags and clears none; an event of kind 14 does.
+ * docs/REGISTERS.md is the map. */
 struct cheukdane_byte cheukdane_register(const uint8_t *image, size_t image_length, uint32_t address);
 
 /* Writes an event's record at the start of `out`; 12 if it doesn't fit. Kind and words as for cheukdane_event; the
- * model isn't asked. */
+ * model isn't asked. A run of a length that isn't 1 to 32, or with a byte past its length that isn't zero, has no
+ * record: 5, before 12. */
 struct cheukdane_written cheukdane_write(uint32_t kind, const uint8_t *words, size_t words_length, uint8_t *out,
                                          size_t out_length);
 
 /* Reads two logs side by side. If one is the other's start: the log whose rest is more, and where that rest starts
- * (equal logs: the first, at its end). Else 14, with the record's number and where it starts; or 1 to 4 for a record
+ * (equal logs: the first, at its end). Else 14, with the record's number and where it starts; or 1 to 5 for a record
  * that can't be read, the first log's before the second's, with its number and the place, in that log, of what decided
  * it. */
 struct cheukdane_compared cheukdane_compare(const uint8_t *first, size_t first_length, const uint8_t *second,

@@ -118,10 +118,11 @@ mod tests {
     #[test]
     fn plays_as_the_library_does() {
         play_all((0..times(1_000)).map(|seed| plausible_log(seed, 200)))
-            .met_exactly([0, 5, 6, 7, 8, 9, 10, 11]);
-        play_all((0..times(4_000)).map(|seed| damaged_log(seed, 40))).met_exactly(0..=11);
+            .met_exactly([0, 5, 6, 7, 8, 9, 10, 11, 15]);
+        play_all((0..times(4_000)).map(|seed| damaged_log(seed, 40)))
+            .met_exactly((0..=11).chain([15]));
         play_all((0..times(4_000)).map(|seed| any_log(seed, 40)))
-            .met_exactly([0, 5, 6, 7, 8, 9, 10, 11]);
+            .met_exactly([0, 5, 6, 7, 8, 9, 10, 11, 15]);
     }
 
     /// Whether the bytes are no image, or one whose band is the sample's.

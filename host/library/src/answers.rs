@@ -18,8 +18,8 @@ pub struct Played {
     pub number: u32,
     /// The kind of the record that was read; 0 if none was.
     pub kind: u32,
-    /// The given place, where the record starts; with 1 to 4, the place of
-    /// what decided it.
+    /// The given place, where the record starts; of what can't be read, 1 to
+    /// 5, the place of what decided it.
     pub place: u64,
     /// Where the next record starts; the given place if none was read.
     pub next: u64,
@@ -76,7 +76,7 @@ pub struct Compared {
     pub log: u32,
     /// With a refusal, the record's number, from 1; else 0.
     pub record: u64,
-    /// Where the rest starts; with 14, where the record does; with 1 to 4, the
+    /// Where the rest starts; with 14, where the record does; with 1 to 5, the
     /// place of what decided it, in its own log.
     pub place: u64,
 }

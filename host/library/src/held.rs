@@ -7,6 +7,7 @@
 
 use crate::image::{band_number, Held, Powered};
 use reference::edges::BAND_CHANGED;
+use reference::model::hand_back;
 use reference::pins::Pins;
 use reference::stored::Stored;
 use reference::{
@@ -20,7 +21,7 @@ const TS_STAT: u32 = 0x1E;
 /// What an accepted event leaves and shows.
 pub(crate) struct Accepted {
     pub(crate) held: Held,
-    /// Phase, current, voltage, input limit, pulse, held flags, and the flags
+    /// Phase, current, voltage, input limit, pulse, held flags, and what is
     /// handed back.
     pub(crate) shown: [u32; 7],
 }
@@ -72,19 +73,17 @@ fn by_held_band(before: &Powered, event: &Event, step: Step) -> Step {
     } else {
         edges | BAND_CHANGED
     };
-    let flags = before.state.flags | edges;
-    let taken = matches!(event, Event::TakeFlags);
-    after.flags = if taken { 0 } else { flags };
-    Step {
-        model: Model::On(after),
-        handed: if taken { flags } else { 0 },
-        pulse: edges & !after.settings[Setting::Masks] != 0,
-        ..step
-    }
+    after.flags = before.state.flags | edges;
+    let handed = hand_back(event, &mut after);
+    let pulse = edges & !after.settings[Setting::Masks] != 0;
+    Step { model: Model::On(after), handed, pulse, ..step }
 }
 
-/// The flags that an event sets if none is held.
+/// The flags that an event sets if none is held. A read of a flag register sets
+/// those that a taking of all flags does, and that hands them back.
 fn edges_alone(before: &State, event: &Event) -> u32 {
+    let taken = matches!(event, Event::ReadFlags { .. });
+    let event = if taken { &Event::TakeFlags } else { event };
     let step = Model::On(State { flags: 0, ..*before }).step(event);
     held_flags(&step.model) | step.handed
 }

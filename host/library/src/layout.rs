@@ -2,9 +2,9 @@
 //! words stand.
 
 /// The number of the rules.
-pub const RULES: u32 = 5;
+pub const RULES: u32 = 6;
 /// The format of an image: word 0 of a model that is on.
-pub const FORMAT: u32 = 5;
+pub const FORMAT: u32 = 6;
 /// Bytes of a word.
 pub const WORD: usize = 4;
 /// Words of an image.
@@ -39,6 +39,8 @@ pub const SHOWN: usize = 28;
 pub const REPORT: usize = 24;
 /// Bytes of the longest record.
 pub const RECORD: usize = 51;
+/// Bytes of a run's words.
+pub const RUN: usize = 40;
 
 /// The bytes of words, lowest byte first.
 pub fn bytes_of(words: &[u32]) -> Vec<u8> {

@@ -2,7 +2,7 @@
 //! them must answer, bytes included, by the `reference` package.
 //!
 //! * [`layout`], [`answers`]: the header's constants and answers.
-//! * [`calls`]: the library's calls.
+//! * [`calls`]: the library's calls; [`given`]: an event as its words.
 //! * [`image`]: a reference model as the bytes of an image, and back (`words`).
 //! * [`expected`]: the same calls, answered by the reference; `held` has what
 //!   it says of a model that an image holds.
@@ -15,6 +15,7 @@ pub mod answers;
 pub mod both;
 pub mod calls;
 pub mod expected;
+pub mod given;
 mod held;
 pub mod image;
 pub mod layout;

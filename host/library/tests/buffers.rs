@@ -2,12 +2,13 @@
 //! and changes no byte; bytes after what is written stay.
 
 use library::both;
+use library::given;
 use library::image::{self, Held, Powered};
-use library::layout::{bytes_of, IMAGE, RECORD, REPORT, SHOWN};
+use library::layout::{IMAGE, RECORD, REPORT, SHOWN};
 use library::tally::Tally;
-use reference::generate::{any_event, any_state, events_of, times, Rng};
-use reference::record::{encode, numbers_of};
-use reference::{Event, Sample};
+use reference::generate::{any_event, any_state, events_of, times, unspelled_run, Rng};
+use reference::record::encode;
+use reference::{Event, Run, Sample};
 
 fn any_image(rng: &mut Rng) -> Vec<u8> {
     let state = any_state(rng);
@@ -26,7 +27,7 @@ fn shown_at_every_length() {
     for _ in 0..times(2_000) {
         let bytes = any_image(&mut rng);
         let event = any_event(&mut rng);
-        let words = bytes_of(&numbers_of(&event));
+        let words = given::words(&event);
         for length in 0..=2 * SHOWN {
             let mut shown = buffer(length);
             let played = both::play(&mut bytes.clone(), &encode(&event), 0, &mut shown);
@@ -39,7 +40,7 @@ fn shown_at_every_length() {
             assert_eq!(shown[written..], buffer(length)[written..]);
         }
     }
-    tally.met_exactly([0, 5, 7, 8, 9, 10, 11, 12]);
+    tally.met_exactly([0, 5, 7, 8, 9, 10, 11, 12, 15]);
 }
 
 #[test]
@@ -73,14 +74,22 @@ fn long_buffers() {
 #[test]
 fn a_short_buffer_comes_after_the_image_and_before_all_else() {
     let mut tally = Tally::default();
-    let logs: [&[u8]; 7] =
-        [&[], &[8], &[9], &[2], &[2, 0x80, 0], &[4], &[2, 0xFF, 0xFF, 0xFF, 0xFF, 0xFF]];
+    let logs: [&[u8]; 8] = [
+        &[],
+        &[8, 5, 0],
+        &[9],
+        &[10],
+        &[2],
+        &[2, 0x80, 0],
+        &[4],
+        &[2, 0xFF, 0xFF, 0xFF, 0xFF, 0xFF],
+    ];
     for length in 0..SHOWN {
         for log in logs {
             tally.count(both::play(&mut [0; IMAGE], log, 0, &mut buffer(length)).number);
             assert_eq!(both::play(&mut [2; IMAGE], log, 0, &mut buffer(length)).number, 5);
         }
-        for kind in [0, 1, 4, 8, 9, 256] {
+        for kind in [0, 1, 4, 8, 9, 10, 14, 256] {
             tally.count(both::event(&mut [0; IMAGE], kind, &[], &mut buffer(length)).number);
             assert_eq!(both::event(&mut [2; IMAGE], kind, &[], &mut buffer(length)).number, 5);
         }
@@ -92,7 +101,7 @@ fn a_short_buffer_comes_after_the_image_and_before_all_else() {
 }
 
 fn write_at_every_length(event: &Event, tally: &mut Tally) {
-    let words = bytes_of(&numbers_of(event));
+    let words = given::words(event);
     let record = encode(event);
     for length in 0..=RECORD + 5 {
         let mut out = buffer(length);
@@ -115,14 +124,31 @@ fn records_at_every_length() {
     tally.met_exactly([0, 12]);
 }
 
+/// "has no record: 5, before 12", and no byte is written.
+#[test]
+fn runs_without_a_record_at_every_length() {
+    let mut rng = Rng::new(71);
+    for _ in 0..times(2_000) {
+        let words = given::words(&Event::WriteRun(unspelled_run(&mut rng)));
+        for length in 0..=RECORD + 5 {
+            let mut out = buffer(length);
+            let written = both::write(8, &words, &mut out);
+            assert_eq!((written.number, written.count, out), (5, 0, buffer(length)));
+        }
+    }
+}
+
 /// Numbers at every border of their spellings' lengths, one after another.
 #[test]
 fn records_of_every_width() {
     let mut tally = Tally::default();
-    for shift in 0..32 {
+    for shift in 0..32usize {
         for value in [(1u32 << shift) - 1, 1 << shift, (1 << shift) + 1, u32::MAX] {
             write_at_every_length(&Event::Set { number: value, value: 0 }, &mut tally);
             write_at_every_length(&Event::Write { address: 0, byte: value }, &mut tally);
+            write_at_every_length(&Event::ReadFlags { address: value }, &mut tally);
+            let run = Run::new(value, &[0xFF; 32][..=shift]);
+            write_at_every_length(&Event::WriteRun(run), &mut tally);
             let ibat = reference::number::unfold(value);
             let sample = Sample { stamp: value, vin: 0, vbat: value, ibat, ts: 0, bits: value };
             write_at_every_length(&Event::Observe(sample), &mut tally);
@@ -152,7 +178,7 @@ fn a_log_written_into_what_is_left() {
         let mut place = 0;
         let mut whole = Vec::new();
         for event in &events {
-            let words = bytes_of(&numbers_of(event));
+            let words = given::words(event);
             let written = both::write(event.kind().into(), &words, &mut log[place..]);
             if written.number == 12 {
                 break;

@@ -35,6 +35,7 @@ fn constants_are_the_headers() {
         ("SHOWN", layout::SHOWN),
         ("REPORT", layout::REPORT),
         ("RECORD", layout::RECORD),
+        ("RUN", layout::RUN),
     ];
     for (name, value) in constants {
         assert_eq!(defined(&format!("CHEUKDANE_{name}")), value, "{name}");

@@ -13,7 +13,7 @@ use reference::{Event, Model};
 /// play, event, report and a register's read.
 fn lend(bytes: &[u8], event: &Event) -> [u32; 4] {
     let kind = event.kind().into();
-    let words = library::layout::bytes_of(&reference::record::numbers_of(event));
+    let words = library::given::words(event);
     let (mut played, mut given) = (bytes.to_vec(), bytes.to_vec());
     let answers = [
         both::play(&mut played, &encode(event), 0, &mut [0xEE; SHOWN]).number,
@@ -110,8 +110,8 @@ fn every_word_damaged() {
             }
         }
     }
-    met[0].met_exactly([0, 5, 7, 8, 9, 10, 11]);
-    met[1].met_exactly([0, 5, 7, 8, 9, 10, 11]);
+    met[0].met_exactly([0, 5, 7, 8, 9, 10, 11, 15]);
+    met[1].met_exactly([0, 5, 7, 8, 9, 10, 11, 15]);
     met[2].met_exactly([0, 5]);
     met[3].met_exactly([0, 5]);
 }
@@ -203,6 +203,8 @@ fn a_band_that_is_not_the_samples() {
             let other = with_word(&bytes, BAND, band);
             lend(&other, &any_event(&mut rng));
             lend(&other, &Event::TakeFlags);
+            lend(&other, &Event::ReadFlags { address: 0x20 });
+            lend(&other, &Event::ReadFlags { address: 0x21 });
         }
     }
 }

@@ -69,25 +69,25 @@ fn play_all(logs: impl Iterator<Item = Vec<u8>>) -> Tally {
 #[test]
 fn plausible_logs() {
     let logs = (0..times(50_000)).map(|seed| plausible_log(seed, 24));
-    play_all(logs).met_exactly([0, 5, 6, 7, 8, 9, 10, 11]);
+    play_all(logs).met_exactly([0, 5, 6, 7, 8, 9, 10, 11, 15]);
 }
 
 #[test]
 fn long_logs() {
     let logs = (0..times(300)).map(|seed| plausible_log(!seed, 2_000));
-    play_all(logs).met_exactly([0, 5, 6, 7, 8, 9, 10, 11]);
+    play_all(logs).met_exactly([0, 5, 6, 7, 8, 9, 10, 11, 15]);
 }
 
 #[test]
 fn damaged_logs() {
     let logs = (0..times(60_000)).map(|seed| damaged_log(seed + 1_000_000, 20));
-    play_all(logs).met_exactly(0..=11);
+    play_all(logs).met_exactly((0..=11).chain([15]));
 }
 
 #[test]
 fn logs_of_any_numbers() {
     let logs = (0..times(40_000)).map(|seed| any_log(seed, 12));
-    play_all(logs).met_exactly([0, 5, 6, 7, 8, 9, 10, 11]);
+    play_all(logs).met_exactly([0, 5, 6, 7, 8, 9, 10, 11, 15]);
 }
 
 /// Plays one record somewhere in a log on the image of a model from outside.
@@ -122,7 +122,7 @@ fn single_records_on_any_model() {
         let event = sample_after(&mut rng, &powered);
         play_one(&mut rng, powered, &event, &mut tally);
     }
-    tally.met_exactly([0, 5, 7, 8, 9, 10, 11]);
+    tally.met_exactly([0, 5, 7, 8, 9, 10, 11, 15]);
 }
 
 #[test]
@@ -137,17 +137,20 @@ fn single_records_on_models_that_do_not_pass() {
     tally.met_exactly([5]);
 }
 
-/// An unreadable record is no event: 1-4 come before a model's own 5.
+/// An unreadable record is no event: 1 to 5 and kind 0 come before a model's
+/// own 5, which has the record's kind.
 #[test]
 fn unreadable_records_on_models_that_do_not_pass() {
     let mut rng = Rng::new(6);
     let mut tally = Tally::default();
-    let unreadable: [&[u8]; 7] = [
+    let unreadable: [&[u8]; 9] = [
         &[2],
         &[2, 0x80, 0x00],
         &[2, 0x80, 0x80, 0x80, 0x80, 0x10],
         &[9, 0x80, 0x00],
         &[8],
+        &[8, 0x10, 0x00, 1],
+        &[8, 0x10, 0x21, 1],
         &[10],
         &[0],
     ];
@@ -156,9 +159,10 @@ fn unreadable_records_on_models_that_do_not_pass() {
         let mut bytes = image::of(&Held::On(Powered::new(1, 0, state)));
         let log = rng.pick(&unreadable);
         let played = both::play(&mut bytes, log, 0, &mut [0xEE; SHOWN]);
+        assert_eq!(played.kind, 0);
         tally.count(played.number);
     }
-    tally.met_exactly([1, 2, 3, 4]);
+    tally.met_exactly(1..=5);
 }
 
 /// Records that start at any byte of a log, be it inside another record.
@@ -173,12 +177,13 @@ fn every_place_of_a_log() {
             tally.count(both::play(&mut bytes, &log, place, &mut [0xEE; SHOWN]).number);
         }
     }
-    tally.met_exactly([0, 1, 2, 3, 4, 5, 7, 8, 9, 10, 11]);
+    tally.met_exactly([0, 1, 2, 3, 4, 5, 7, 8, 9, 10, 11, 15]);
 }
 
-/// "the bytes up to and including that one decide: every log that starts with
-/// them is refused with the same number and place, and a log that ends before
-/// that byte isn't refused with that number".
+/// "the bytes up to and including that one decide, for 5 those up to the
+/// length's last: every log that starts with them is refused with the same
+/// number and place, and a log that ends before the place's byte isn't refused
+/// with that number". The reader's 5 "has a place above the given one".
 fn check_decided(log: &[u8], place: usize, refused: Played) {
     let play = |log: &[u8]| both::play(&mut [0; IMAGE], log, place, &mut [0xEE; SHOWN]);
     assert_eq!((refused.kind, refused.next), (0, place as u64), "{place} of {log:02X?}");
@@ -187,8 +192,13 @@ fn check_decided(log: &[u8], place: usize, refused: Played) {
         assert_eq!(decided, log.len(), "{place} of {log:02X?}");
         return;
     }
+    let mut last = decided;
+    if refused.number == 5 {
+        assert!(decided > place, "{place} of {log:02X?}");
+        last += log[decided..].iter().take_while(|byte| **byte >= 0x80).count();
+    }
     for tail in [&[][..], &[0], &[1; 50], &[0x80], &[0xFF; 6]] {
-        let other = [&log[..=decided], tail].concat();
+        let other = [&log[..=last], tail].concat();
         assert_eq!(play(&other), refused, "{place} of {other:02X?}");
     }
     assert_ne!(play(&log[..decided]).number, refused.number, "{place} of {log:02X?}");
@@ -201,13 +211,13 @@ fn the_byte_that_decided_it() {
         let log = damaged_log(seed + 6_000_000, 12);
         for place in 0..log.len() {
             let played = both::play(&mut [0; IMAGE], &log, place, &mut [0xEE; SHOWN]);
-            if (1..=4).contains(&played.number) {
+            if played.kind == 0 {
                 check_decided(&log, place, played);
                 tally.count(played.number);
             }
         }
     }
-    tally.met_exactly([1, 2, 3, 4]);
+    tally.met_exactly(1..=5);
 }
 
 /// At the log's end and past it there is no record, and no byte changes.

@@ -5,7 +5,7 @@ use reference::generate::events_of;
 use reference::map::FIELDS;
 use reference::pins::code_of;
 use reference::state::phase;
-use reference::{edges, event, Event, Refusal, Sample, Setting};
+use reference::{edges, event, Event, Refusal, Run, Sample, Setting};
 
 const HEADER: &str = include_str!("../../../include/cheukdane.h");
 
@@ -82,6 +82,7 @@ fn refusals() {
         ("NO_ROOM", Refusal::NoRoom),
         ("INPUT_TOO_LONG", Refusal::InputTooLong),
         ("LOGS_PART", Refusal::LogsPart),
+        ("HALF_REGISTER", Refusal::HalfRegister),
     ];
     are("REFUSED_", &wanted.map(|(name, refusal)| (name, refusal.number())));
     are("ACCEPTED", &[("", 0)]);
@@ -98,7 +99,9 @@ fn kinds() {
         ("OBSERVE", Event::Observe(Sample::at_power_on(0))),
         ("SERVICE", Event::Service),
         ("RESET", Event::Reset),
+        ("WRITE_RUN", Event::WriteRun(Run::new(0x15, &[0]))),
         ("POWER_ON_RESISTORS", power_on(9)),
+        ("READ_FLAGS", Event::ReadFlags { address: 0x20 }),
     ];
     are("KIND_", &wanted.map(|(name, event)| (name, event.kind().into())));
 }

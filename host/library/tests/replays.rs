@@ -71,7 +71,7 @@ fn a_log_above_65536_bytes() {
 #[test]
 fn damaged_logs() {
     let logs = (0..times(40_000)).map(|seed| damaged_log(seed + 2_000_000, 40));
-    replay_all(logs).met_exactly(0..=4);
+    replay_all(logs).met_exactly(0..=5);
 }
 
 #[test]
@@ -95,7 +95,7 @@ fn every_place_on_any_model() {
             assert_eq!(replayed(&spoiled, &log, place).1, spoiled);
         }
     }
-    tally.met_exactly(0..=4);
+    tally.met_exactly(0..=5);
 }
 
 /// An answer without a record: place and next are as given.
@@ -157,7 +157,7 @@ fn logs_that_grow() {
             }
         }
     }
-    tally.met_exactly(0..=4);
+    tally.met_exactly(0..=5);
 }
 
 /// A head that replays its log whenever it has a few bytes more, from `next`.
