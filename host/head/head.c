@@ -37,10 +37,14 @@ void start(struct head *head) {
 uint32_t does(struct head *head, const struct event *event, uint8_t *show) {
     uint8_t words[40];
     size_t length = put_words(words, event->numbers, event->count);
-    struct cheukdane_answer answer = cheukdane_event(head->image, sizeof head->image, event->kind, words, length, show, CHEUKDANE_SHOWN);
+    return does_words(head, event->kind, words, length, show);
+}
+
+uint32_t does_words(struct head *head, uint32_t kind, const uint8_t *words, size_t length, uint8_t *show) {
+    struct cheukdane_answer answer = cheukdane_event(head->image, sizeof head->image, kind, words, length, show, CHEUKDANE_SHOWN);
     if (answer.number == 0) {
         struct cheukdane_written written =
-            cheukdane_write(event->kind, words, length, head->log + head->length, sizeof head->log - head->length);
+            cheukdane_write(kind, words, length, head->log + head->length, sizeof head->log - head->length);
         holds(written.number == 0, "an accepted event is logged");
         head->length += written.count;
     }

@@ -38,6 +38,9 @@ void start(struct head *head);
 /* Does one event: the model judges it, and an accepted one is logged. Gives the answer. */
 uint32_t does(struct head *head, const struct event *event, uint8_t *show);
 
+/* The same of an event's kind and words. */
+uint32_t does_words(struct head *head, uint32_t kind, const uint8_t *words, size_t length, uint8_t *show);
+
 /* Plays a log from a place to its end. Gives the place at which it ended. */
 size_t play(struct head *head, const uint8_t *log, size_t length, size_t place);
 
@@ -52,5 +55,6 @@ void show_bad_images(void);
 void show_refusals(void);
 void show_resistors(void);
 void show_registers(void);
+void show_runs(void);
 
 #endif

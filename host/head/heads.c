@@ -11,6 +11,8 @@ static const struct event MORNING[] = {
     {CHEUKDANE_KIND_OBSERVE, 6, {60000, 12000, 7600, 1800, 69000, 0}},
     {CHEUKDANE_KIND_WRITE, 2, {0x1B, 0x40}},
     {CHEUKDANE_KIND_WRITE, 2, {0x1C, 0x08}},
+    {CHEUKDANE_KIND_WRITE_RUN, 10, {0x0E, 3, 0x3F0406}},
+    {CHEUKDANE_KIND_READ_FLAGS, 1, {0x20}},
     {CHEUKDANE_KIND_SERVICE, 0, {0}},
     {CHEUKDANE_KIND_TAKE_FLAGS, 0, {0}},
     {CHEUKDANE_KIND_OBSERVE, 6, {120000, 12000, 8395, 1000, 55000, 0}},
@@ -49,7 +51,7 @@ static void two_heads_in_step(void) {
 
 static void a_charge_is_seen(void) {
     int before = failures;
-    const uint32_t phases[EVENTS] = {0, 1, 2, 2, 3, 3, 3, 3, 3, 4, 5, 5, 0, 7, 7, 7};
+    const uint32_t phases[EVENTS] = {0, 1, 2, 2, 3, 3, 3, 3, 3, 3, 3, 4, 5, 5, 0, 7, 7, 7};
     struct head head;
     uint8_t show[CHEUKDANE_SHOWN];
     uint32_t held = 0;

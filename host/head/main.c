@@ -9,5 +9,6 @@ int main(void) {
     show_refusals();
     show_resistors();
     show_registers();
+    show_runs();
     return failures != 0;
 }

@@ -33,7 +33,12 @@ static const struct {
     {{CHEUKDANE_KIND_SERVICE, 2, 9, 0x80, 0x80, 0x80, 0x80, 0x00, 0x00}, CHEUKDANE_REFUSED_ZERO_GROUP, 7},
     {{CHEUKDANE_KIND_SERVICE, 2, 9, 0x80, 0x80, 0x80, 0x80, 0x80, 0x80}, CHEUKDANE_REFUSED_TOO_LARGE, 7},
     {{CHEUKDANE_KIND_SERVICE, 2, 9, 0xFF, 0xFF, 0xFF, 0xFF, 0x10, 0x00}, CHEUKDANE_REFUSED_TOO_LARGE, 7},
-    {{CHEUKDANE_KIND_SERVICE, 8, 0x80, 0x00, 0x80, 0x00, 0x00, 0x00, 0x00}, CHEUKDANE_REFUSED_UNKNOWN_KIND, 1},
+    {{CHEUKDANE_KIND_SERVICE, 8, 0x80, 0x00, 0x80, 0x00, 0x00, 0x00, 0x00}, CHEUKDANE_REFUSED_ZERO_GROUP, 3},
+    {{CHEUKDANE_KIND_SERVICE, 8, 0x10, 0x00, 0x3F, 0x1D, 0x80, 0x00, 0x00}, CHEUKDANE_REFUSED_OUT_OF_RANGE, 3},
+    {{CHEUKDANE_KIND_SERVICE, 8, 0x90, 0x01, 0xA0, 0x01, 0x80, 0x00, 0x00}, CHEUKDANE_REFUSED_OUT_OF_RANGE, 4},
+    {{CHEUKDANE_KIND_SERVICE, 8, 0x10, 0x90, 0x00, 0x1D, 0x80, 0x00, 0x00}, CHEUKDANE_REFUSED_ZERO_GROUP, 4},
+    {{CHEUKDANE_KIND_SERVICE, 8, 0x10, 0x06, 0x3F, 0x1D, 0x80, 0x00, 0x00}, CHEUKDANE_REFUSED_ENDS_INSIDE, 9},
+    {{CHEUKDANE_KIND_SERVICE, 14, 0xA0, 0x80, 0x80, 0x80, 0x80, 0x00, 0x00}, CHEUKDANE_REFUSED_TOO_LARGE, 6},
     {{CHEUKDANE_KIND_SERVICE, 9, 0x98, 0x2F, 0x84, 0x6B, 0x84, 0x52, 0x00}, CHEUKDANE_REFUSED_ENDS_INSIDE, 9},
     {{CHEUKDANE_KIND_SERVICE, 9, 0x98, 0x2F, 0x84, 0xEB, 0x00, 0x84, 0x52}, CHEUKDANE_REFUSED_ZERO_GROUP, 6},
     {{CHEUKDANE_KIND_SERVICE, 10, 0x80, 0x00, 0x80, 0x00, 0x00, 0x00, 0x00}, CHEUKDANE_REFUSED_UNKNOWN_KIND, 1},
@@ -110,7 +115,8 @@ static void short_records(void) {
     longest_record(CHEUKDANE_KIND_POWER_ON);
     longest_record(CHEUKDANE_KIND_POWER_ON_RESISTORS);
     holds(cheukdane_write(0, NULL, 0, out, sizeof out).number == 4, "kind 0 is 4");
-    holds(cheukdane_write(8, NULL, 0, out, sizeof out).number == 4, "kind 8 is 4");
+    holds(cheukdane_write(8, NULL, 0, out, sizeof out).number == 5, "a run without words is 5");
+    holds(cheukdane_write(14, NULL, 0, out, sizeof out).number == 5, "and so is a read of no address");
     holds(cheukdane_write(10, NULL, 0, out, sizeof out).number == 4, "kind 10 is 4");
     holds(cheukdane_write(9, words, 36, out, sizeof out).number == 5, "a power-on by resistors of nine numbers is 5");
     holds(cheukdane_write(2, words, 4, out, sizeof out).number == 5, "a set of one number is 5");
