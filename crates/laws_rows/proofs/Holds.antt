@@ -20,7 +20,12 @@ use Rattle.settle_levels.specs.Voltage.{chargeVoltageOf, belowRecharge, taperOf
 use Rattle.report_text.specs.Decimal.{decimal, decimalBy}
 use Rattle.report_text.specs.Text.{endText, lineText, headedText}
 use Rattle.step_kinds.specs.Finish.{finishOf}
-use Rattle.step_kinds.specs.Plain.{setOf, writtenOf}
+use Rattle.c_words.specs.Words.{bytesOf, wordsIn, wordAt}
+use Rattle.log_raw.specs.Raw.{byteOf, hasSpelling, allZero, readRaw, rawAt, spellRaw}
+use Rattle.report_registers.specs.Reads.{valueBy, flagByte}
+use Rattle.state_runs.specs.Registers.{settingsTaken, badRegister, registerTaken}
+use Rattle.state_runs.specs.Runs.{badRun, keptRun, writtenRun, writeRunOf, resets, serves}
+use Rattle.step_kinds.specs.Plain.{setOf, writtenOf, actedOf, runFrom, readFlagsOf}
 use Rattle.step_pins.specs.Codes.{codeOf}
 use Rattle.step_turns.specs.Ranges.{profileInRange, sampleInRange, resistorsInRange}
 use Rattle.step_turns.specs.Turns.{turnOf}
@@ -55,5 +60,5 @@ unfolding rows runText linesText wholeOf endText headedText spellEvent numberAt 
 every-row = (refl, (refl, (refl, (refl, (refl, (refl, (refl, (refl, (refl, (refl, tt))))))))))
 
 pub every-request : EveryRequest
-unfolding requested runText linesText wholeOf endText headedText spellEvent numberAt lineText numbersOf pageOf startWalk stepOf spellItems readNumber decimal walkOf heldOf reportOf firstOf stateOk movedOf readGroups decimalBy recordAt settingNumbers fastCurrent chargeVoltageOf inputLimitOf profileOk settingsOk registersOk cycleOk watchdogOk sampleOk setOf observeOf spell readRecord chargeClampOf shareOf baseOf inPack cutOf mayHold finishOf storeOf writeOf observedOf resetOf groups metBy packClampOf settleOf startState wordsOk rangeOf edgesOf merged pulseOf writtenTo countedOf expiredOf clearedIf timesOf unitsOf startSettings resetRegisters lineOf readItems forcedOf latchesOf bandOf settledOf testsOf fieldsOf ranges seenOf recounted writtenRegisters takenBy gathered regulatedOf startVreg startIchg startVsysmin flagsNumber eventOf faultOf shortOf lowOf packOverOf cycleOf phaseOf permittedOf suspendsOf belowRecharge taperOf endingOf fields reachedOf signedOf belowShare clearsOf endsOf judgedOf restartsOf turnedBy changeOf followedOf writtenOf turnOf profileInRange sampleInRange seenOn resistorsInRange codeOf startWords restoredBy withoutOverrides putIn withWord putAt expiresOf
-every-request = (refl, (refl, (refl, (refl, (refl, (refl, (refl, (refl, (refl, (refl, (refl, (refl, (refl, tt)))))))))))))
+unfolding requested runText linesText wholeOf endText headedText spellEvent numberAt lineText numbersOf pageOf startWalk stepOf spellItems readNumber decimal walkOf heldOf reportOf firstOf stateOk movedOf readGroups decimalBy recordAt settingNumbers fastCurrent chargeVoltageOf inputLimitOf profileOk settingsOk registersOk cycleOk watchdogOk sampleOk setOf observeOf spell readRecord chargeClampOf shareOf baseOf inPack cutOf mayHold finishOf storeOf writeOf observedOf resetOf groups metBy packClampOf settleOf startState wordsOk rangeOf edgesOf merged pulseOf writtenTo countedOf expiredOf clearedIf timesOf unitsOf startSettings resetRegisters lineOf readItems forcedOf latchesOf bandOf settledOf testsOf fieldsOf ranges seenOf recounted writtenRegisters takenBy gathered regulatedOf startVreg startIchg startVsysmin flagsNumber eventOf faultOf shortOf lowOf packOverOf cycleOf phaseOf permittedOf suspendsOf belowRecharge taperOf endingOf fields reachedOf signedOf belowShare clearsOf endsOf judgedOf restartsOf turnedBy changeOf followedOf writtenOf turnOf profileInRange sampleInRange seenOn resistorsInRange codeOf startWords restoredBy withoutOverrides putIn withWord putAt expiresOf runFrom readFlagsOf actedOf writeRunOf badRun keptRun writtenRun resets serves settingsTaken badRegister registerTaken byteOf hasSpelling allZero readRaw rawAt spellRaw bytesOf wordsIn wordAt flagByte valueBy
+every-request = (refl, (refl, (refl, (refl, (refl, (refl, (refl, (refl, (refl, (refl, (refl, (refl, (refl, (refl, (refl, (refl, (refl, (refl, (refl, tt)))))))))))))))))))

@@ -24,6 +24,12 @@ solderedLog pins ilim =
     0x09 ∷ (pins ++ (ilim ++ (0x00 ∷ 0x94 ∷ 0x23 ∷ 0x90 ∷ 0x1C ∷ 0xA0 ∷ 0x38 ∷ 0xA0 ∷ 0x99 ∷ 0x02 ∷ 0x00
     ∷ 0x05 ∷ 0xE8 ∷ 0x07 ∷ 0xE0 ∷ 0x5D ∷ 0xB0 ∷ 0x3B ∷ 0x00 ∷ 0xD8 ∷ 0xAD ∷ 0x03 ∷ 0x00 ∷ [])))
 
+-- R-3: 01's power-on and observation, and what follows
+abbrev pub typedLog : List ℕ → List ℕ
+typedLog bytes =
+    0x01 ∷ 0x02 ∷ 0x05 ∷ 0x04 ∷ 0x00 ∷ 0x00 ∷ 0x94 ∷ 0x23 ∷ 0x90 ∷ 0x1C ∷ 0xA0 ∷ 0x38 ∷ 0xA0 ∷ 0x99 ∷ 0x02 ∷ 0x00
+    ∷ 0x05 ∷ 0xE8 ∷ 0x07 ∷ 0xE0 ∷ 0x5D ∷ 0xB0 ∷ 0x3B ∷ 0x00 ∷ 0xD8 ∷ 0xAD ∷ 0x03 ∷ 0x00 ∷ bytes
+
 unfoldable pub requested : List Row
 requested =
     -- R-1: taper; done, though 7,890 is below 97% of 8,400; still done; back in normal the band alone restarts the cycle
@@ -36,7 +42,7 @@ requested =
     ∷ row (log (0x02 ∷ 0x01 ∷ 0x80 ∷ 0x80 ∷ 0x80 ∷ 0x80 ∷ 0x10 ∷ 0x00 ∷ [])) (bytesOf "end 0 3 6\n")
     ∷ row (log (0x02 ∷ 0x01 ∷ 0x80 ∷ 0x80 ∷ 0x80 ∷ 0x80 ∷ 0x80 ∷ [])) (bytesOf "end 0 3 6\n")
     -- "Refusals 4 and 14 keep the record's start": a service, and then a byte that is no kind's; the same before a zero group
-    ∷ row (log (0x06 ∷ 0x08 ∷ 0x80 ∷ [])) (bytesOf "1 6 6 0 0 0 0 0 0\nend 1 4 1\n")
+    ∷ row (log (0x06 ∷ 0x0A ∷ 0x80 ∷ [])) (bytesOf "1 6 6 0 0 0 0 0 0\nend 1 4 1\n")
     ∷ row (log (0x06 ∷ 0x02 ∷ 0x80 ∷ 0x00 ∷ [])) (bytesOf "1 6 6 0 0 0 0 0 0\nend 1 2 3\n")
     -- R-5: "From there it acts as kind 1 with those codes": 6,040, 13,700 and 10,500 ohms are 01's codes 2, 5 and 4; so are 5,920, 13,974 and 10,290, at the ends of their spans
     ∷ row (log (solderedLog (0x98 ∷ 0x2F ∷ 0x84 ∷ 0x6B ∷ 0x84 ∷ 0x52 ∷ []) (0x00 ∷ []))) (bytesOf "1 9 0 0 0 0 3300 1 32\n2 5 0 3 1500 8400 3300 1 97\nend 2 0 31\n")
@@ -47,6 +53,21 @@ requested =
     -- "ohms above 100,000 are 5": 100,001 at VCHG; the ILIM ohms keep 33,000
     ∷ row (log (solderedLog (0x98 ∷ 0x2F ∷ 0xA1 ∷ 0x8D ∷ 0x06 ∷ 0x84 ∷ 0x52 ∷ []) (0x00 ∷ []))) (bytesOf "1 9 5 0 0 0 0 0 0\n2 5 6 0 0 0 0 0 0\nend 2 0 32\n")
     ∷ row (log (solderedLog (0x98 ∷ 0x2F ∷ 0x84 ∷ 0x6B ∷ 0x84 ∷ 0x52 ∷ []) (0xE9 ∷ 0x81 ∷ 0x02 ∷ []))) (bytesOf "1 9 5 0 0 0 0 0 0\n2 5 6 0 0 0 0 0 0\nend 2 0 33\n")
+    -- R-3: a run of four bytes at 0x04 is VREG 8,200 and IINDPM 2,000, "little-endian"; the read of 0x20 "clears its own flags"
+    ∷ row (log (typedLog (0x08 ∷ 0x04 ∷ 0x04 ∷ 0xA0 ∷ 0x19 ∷ 0x40 ∷ 0x06 ∷ 0x0E ∷ 0x20 ∷ [])))
+    (bytesOf "1 1 0 0 0 0 3300 1 32\n2 5 0 3 1500 8400 3300 1 97\n3 8 0 3 1500 8200 2000 0 97\n4 14 0 3 1500 8200 2000 0 0\nend 4 0 37\n")
+    -- "Reset and service bits act as kinds 7 and 6 after the run's other bytes": ITERM 120 and a reset bit leave what a reset leaves
+    ∷ row (log (typedLog (0x08 ∷ 0x06 ∷ 0x0B ∷ 0x40 ∷ 0x06 ∷ 0x00 ∷ 0x00 ∷ 0x00 ∷ 0x00 ∷ 0x00 ∷ 0x00 ∷ 0x06 ∷ 0x06 ∷ 0x80 ∷ [])))
+    (bytesOf "1 1 0 0 0 0 3300 1 32\n2 5 0 3 1500 8400 3300 1 97\n3 8 0 3 1500 8400 3300 0 97\nend 3 0 42\n")
+    -- "15, half of a sixteen-bit register, after 10, then 11; a field value that its setting can't hold is 9, last": 0x25 to 0x27; 0x05; 0x0E to 0x16 with IPRECHG 0 and FSW 0; IPRECHG 0 alone; and
+    -- kind 14 at 0x22
+    ∷ row (log (typedLog (0x08 ∷ 0x25 ∷ 0x03 ∷ 0x00 ∷ 0x00 ∷ 0x00 ∷ 0x08 ∷ 0x05 ∷ 0x01 ∷ 0x19 ∷ 0x0E ∷ 0x22 ∷ [])))
+    (bytesOf "1 1 0 0 0 0 3300 1 32\n2 5 0 3 1500 8400 3300 1 97\n3 8 10 3 1500 8400 3300 0 97\n4 8 15 3 1500 8400 3300 0 97\n5 14 10 3 1500 8400 3300 0 97\nend 5 0 40\n")
+    ∷ row (log (typedLog (0x08 ∷ 0x0E ∷ 0x09 ∷ 0x00 ∷ 0x03 ∷ 0x3F ∷ 0x00 ∷ 0x00 ∷ 0x00 ∷ 0x00 ∷ 0x00 ∷ 0x00 ∷ 0x08 ∷ 0x0E ∷ 0x01 ∷ 0x00 ∷ [])))
+    (bytesOf "1 1 0 0 0 0 3300 1 32\n2 5 0 3 1500 8400 3300 1 97\n3 8 11 3 1500 8400 3300 0 97\n4 8 9 3 1500 8400 3300 0 97\nend 4 0 44\n")
+    -- "the log reader gives 5 for another length, after 2, and this 5 counts wherever 01 says 1-4"; R-4: "the reader's 5 the length's": 33, and a length that ends with a zero group
+    ∷ row (log (0x06 ∷ 0x08 ∷ 0x10 ∷ 0x21 ∷ 0x00 ∷ [])) (bytesOf "1 6 6 0 0 0 0 0 0\nend 1 5 3\n")
+    ∷ row (log (0x06 ∷ 0x08 ∷ 0x10 ∷ 0xA1 ∷ 0x00 ∷ [])) (bytesOf "1 6 6 0 0 0 0 0 0\nend 1 2 4\n")
     ∷ []
 
 abbrev pub EveryRequest : Type 0
