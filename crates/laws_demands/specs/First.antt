@@ -19,9 +19,9 @@ use Rattle.laws_step.specs.Ranged.{Among}
 use Rattle.laws_demands.specs.Product.{LogLines, Product}
 use Rattle.laws_demands.specs.Printed.{refusedRun}
 
--- "Every event .. gets an answer": 0, or a number of the model's order. "a refused event changes [not] the model"
+-- "Every event .. gets an answer": 0, or a number of the model's order, 02's 15 among them. "a refused event changes [not] the model"
 pub record Answered (m : Model) (o : Outcome) : Type 0 where
-  pub number : (o .number ≡ 0) ⊎ Among (o .number) 5 11
+  pub number : (o .number ≡ 0) ⊎ (Among (o .number) 5 11 ⊎ (o .number ≡ 15))
   pub refused : o .number ≢ 0 → Untouched m o
 
 -- "every byte string gets an answer": within it a record and a place further on, or a number of the log's order with a place from the record's start to the log's end; from its end on the
