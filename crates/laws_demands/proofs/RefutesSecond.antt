@@ -75,6 +75,7 @@ use Rattle.laws_demands.proofs.Against.{as-ours, shown-as-ours}
 use Rattle.laws_demands.proofs.Only.{same-log}
 use Rattle.laws_demands.proofs.Parts.{parts-break}
 use Rattle.laws_demands.proofs.Soldered.{broken}
+use Rattle.laws_demands.proofs.Typed as typed
 
 -- what breaks the part of demand 2 that a call is held to breaks it for every product with that call
 step-breaks : (step : Step) → ¬ Moves step → StepBreaks step
@@ -153,6 +154,9 @@ second-refuted = record {
   lower = step-breaks _ (broken .lower);
   ilim = step-breaks _ (broken .ilim);
   matchless = step-breaks _ (broken .matchless);
+  half = step-breaks _ (typed.broken .half);
+  between = step-breaks _ (typed.broken .between);
+  both = step-breaks _ (typed.broken .both);
   stray = step-breaks _ (λ d. differ 80000 55000 refl (ap (of (λ s. s .sample .ts)) (d .passes (On stray) refl (PowerOn paper))));
   otherCode = parts-break .read readsSwapped (format-refuted .otherCode);
   otherCodeWritten = parts-break .write writesSwapped (format-refuted .otherCodeWritten);

@@ -13,5 +13,6 @@ pub mod Operators
 pub mod EndTest
 pub mod BasePoint
 pub mod Soldered
+pub mod Typed
 pub mod Older
 pub mod Refuted
