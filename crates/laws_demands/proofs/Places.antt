@@ -26,7 +26,7 @@ use Rattle.laws_heads.proofs.Third.{not-ready}
 use Rattle.laws_demands.specs.Second.{PlayedAt}
 
 -- no kind has the number that stands for none
-some-kind : (k : Kind) → kindByte k ≡ 0 → ⊥
+pub some-kind : (k : Kind) → kindByte k ≡ 0 → ⊥
 some-kind k e =
     let z : some (kindRow k) ≡ none = sym (row-of-its-own k) ∙ no-row (kindByte k) (kinds-listed (kindByte k) .1 (inl e)) in
     let y : _≡_ {A = ℕ} 0 1 = cc in
