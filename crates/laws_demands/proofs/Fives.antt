@@ -24,9 +24,9 @@ use Rattle.laws_demands.specs.Fives.{ImagesFive, ReadersFive, FivesApart
 use Rattle.laws_demands.proofs.Places.{some-kind}
 
 -- a length stands behind a kind's byte
-later : {n place : ℕ} {s : List ℕ} → NoRecord n s place → n ≡ 5 → 1 ≤ place
-later (no-kind b rest none) e = absurd (omega arith)
-later (stopped n kind place e early later next before left listed stand none) five = omega arith
+behind-kind : {n place : ℕ} {s : List ℕ} → NoRecord n s place → n ≡ 5 → 1 ≤ place
+behind-kind (no-kind b rest none) e = absurd (omega arith)
+behind-kind (stopped n kind place e early later next before left listed stand none) five = omega arith
 
 -- 5 of what isn't ready is the image's: a short answer buffer is 12
 not-image : (image : List ℕ) (room wanted number : ℕ) → readyOf image room wanted ≡ refused number → number ≡ 5 → modelIn image ≡ refused 5
@@ -49,7 +49,7 @@ module _ (image bytes : List ℕ) (are : Bytes bytes) (place : ℕ) (shown : Lis
   by (accepted m) r (met e next) h five none = absurd (some-kind (kindOf e) none)
   by (accepted m) r (log.refused n decided) h five none =
       let row = our-reads .refuses bytes are place n decided .0 h in
-      let more = later (row .row) five in
+      let more = behind-kind (row .row) five in
       let counts = row .counts in
       inr (omega arith, h ∙ ap (λ (k : ℕ). log.refused k decided) five)
   by (accepted m) r end h five none = absurd (omega arith)

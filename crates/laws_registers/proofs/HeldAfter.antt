@@ -1,7 +1,7 @@
 -- What one register leaves in one setting: the value of its own field, if the field is the register's, and else what was held.
 use Prim.Native.Nat.{ℕ, zero, suc, _*_, _≤_, _<_}
 use mathlib.Core.Path.{_≡_, refl, sym, ap, subst, _∙_}
-use mathlib.Core.Bool.{Bool, true, false, not, _||_, true≢false, false≢true}
+use mathlib.Core.Bool.{Bool, true, false, not, _||_, false≢true}
 use mathlib.Core.List.{List, [], _∷_}
 use native.Mathlib.Nat.{not-suc-le-zero}
 use native.Mathlib.Omega.{arith}
@@ -25,7 +25,7 @@ use Rattle.state_table.specs.declared.Access.{Access}
 use Rattle.state_table.specs.declared.Access.the-variants.{Reserved, Fixed, Status, Flag, Stored, Setting, Mask, Counted, Pin, Acts}
 use Rattle.state_table.proofs.Tested.{every, at, long}
 use Rattle.laws_registers.proofs.Gets.{over-gets}
-use Rattle.laws_registers.proofs.Mates.{alone-at}
+use Rattle.laws_registers.proofs.Mates.{or-second, alone-at}
 use Rattle.laws_registers.proofs.Places.{in-table, bits-apart}
 
 -- a store of another setting leaves this one
@@ -72,10 +72,6 @@ only f (Acts number) = true
 all-only : every (λ (f : Field). only f (f .access)) fields ≡ true
 unfolding fields
 all-only = refl
-
-or-second : (s t : Bool) → s ≡ false → (s || t) ≡ true → t ≡ true
-or-second true t es e = absurd (true≢false es)
-or-second false t es e = e
 
 differs : (i n step j : ℕ) → i < 147 → nth i .access ≡ Setting n step → j < 147 → (j ≡ i → ⊥) → unlike n (nth j .access) ≡ true
 differs i n step j h e l other =

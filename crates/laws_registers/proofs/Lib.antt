@@ -9,9 +9,11 @@ mod OneRegister
 mod Values
 mod Gets
 mod HeldAfter
+mod MasksAfter
 mod Words
 pub mod ReadBytes
 pub mod Fields
+pub mod FieldRuns
 pub mod Flags
 pub mod Resets
 pub mod Alike

@@ -61,6 +61,10 @@ pub record Alone (p : Profile) (n i : ℕ) : Type 0 where
   pub no-count : eqb (nth i .address) (cellPin .address) ≡ false
   pub mates : (j : ℕ) → j < 147 → nth j .address ≡ nth i .address → (bitOf (nth j) ≡ bitOf (nth i) → ⊥) → mate n (nth j .access) ≡ true
 
+pub or-second : (s t : Bool) → s ≡ false → (s || t) ≡ true → t ≡ true
+or-second true t es e = absurd (true≢false es)
+or-second false t es e = e
+
 third : (s t u : Bool) → s ≡ true → t ≡ false → (not s || t || u) ≡ true → u ≡ true
 third true false u es et e = e
 third true true u es et e = absurd (true≢false et)

@@ -1,5 +1,5 @@
 -- A run that isn't refused leaves what was written, field by field, and nothing else.
-use Prim.Native.Nat.{ℕ, _+_, _-_, _*_, _%_, _<_}
+use Prim.Native.Nat.{ℕ, _+_, _-_, _*_, _%_, _^_, _<_}
 use mathlib.Core.Path.{_≡_, refl, sym, ap, subst, _∙_}
 use mathlib.Core.Bool.{Bool, true, false, _&&_, false≢true}
 use mathlib.Core.Logic.{_⊎_, ⊎-elim}
@@ -9,6 +9,7 @@ use borrow.Author.Tests.{eqb-true, ne-eqb, eq-eqb, le-leb, lt-ltb}
 use Rattle.base.specs.Pick.{pick}
 use Rattle.log_raw.specs.Raw.{Raw, byteOf}
 use Rattle.state_fields.specs.Held.{fieldIn}
+use Rattle.state_fields.specs.Words.{bitsAt}
 use Rattle.state_fields.proofs.Fields.{Whole}
 use Rattle.state_fields.proofs.Gathers.{nth, stored}
 use Rattle.state_fields.proofs.Taken.{sound-whole, taken-field}
@@ -27,12 +28,13 @@ use Rattle.state_runs.proofs.Steps.{none-meets}
 use Rattle.state_settings.specs.Numbered.{heldOf}
 use Rattle.state_table.specs.Rows.{cellPin, digitOf}
 use Rattle.state_table.specs.Packed.{fieldAt}
-use Rattle.state_table.specs.declared.Access.the-variants.{Setting}
+use Rattle.state_table.specs.declared.Access.the-variants.{Setting, Mask}
 use Rattle.state_valid.specs.Holds.{stateOk}
 use Rattle.state_valid.proofs.Wholes.{apart}
 use Rattle.laws_registers.specs.ReadsBack.{takesCount, LeavesAsWritten, RunsReadBack}
 use Rattle.laws_registers.proofs.Gets.{up-gets}
 use Rattle.laws_registers.proofs.HeldAfter.{held-recounted, held-taken}
+use Rattle.laws_registers.proofs.MasksAfter.{masks-taken}
 use Rattle.laws_registers.proofs.Mates.{alone-at}
 use Rattle.laws_registers.proofs.Splits.{taken-whole}
 
@@ -117,6 +119,25 @@ module _ (s : State) (ok : stateOk s ≡ true) (first : ℕ) (raw : Raw) (fine :
               ∙ held-taken p (first + m) (value m) i n k h e (none-meets (λ (x : ℕ). badRegister p (first + x) (value x)) (raw .count) fine m l) (u .settings),
         )) (keptOf s) tt .1
 
+  -- a count that is taken leaves the masks
+  masks-stand : (b : Bool) (cells : ℕ) (t : Settings) → pick b (recounted p cells t) t .masks ≡ t .masks
+  unfolding recounted
+  masks-stand true cells t = refl
+  masks-stand false cells t = refl
+
+  masks-after : (i from count : ℕ) → i < 147 → nth i .access ≡ Mask from count
+      → bitsAt from count (final .settings .masks)
+      ≡ pick (isWritten first (raw .count) (nth i)) (pick (eqb (writtenCode (byteOf raw) first (nth i)) 0) 0 (2 ^ count - 1)) (bitsAt from count (s .settings .masks))
+  unfolding keptRun registerTaken
+  masks-after i from count h e =
+      up-gets (λ (u : Kept). bitsAt from count (u .settings .masks)) (λ (u : Kept). Unit {0}) step first (nth i .address)
+      (λ (m old : ℕ). pick (eqb (digitOf (nth i) (value m)) 0) 0 (2 ^ count - 1)) (raw .count)
+      (λ m l u _. (
+        tt,
+        ap (bitsAt from count) (masks-stand (countTaken g (first + m) (value m)) (digitOf cellPin (value m)) (settingsTaken p (first + m) (value m) (u .settings)))
+            ∙ masks-taken p (first + m) (value m) i from count h e (u .settings),
+      )) (keptOf s) tt .1
+
 pub runs-read-back : RunsReadBack
 unfolding fieldAt writtenRun
 runs-read-back s first raw t ok e =
@@ -124,5 +145,6 @@ runs-read-back s first raw t ok e =
     subst (LeavesAsWritten s first raw) (sym (j .after)) (record {
       stored = λ i st. stored-after s ok first raw (j .held) (i % 147) (omega arith) st;
       settings = λ i n step q spared. settings-after s ok first raw (j .held) (i % 147) n step (omega arith) q spared;
+      masks = λ i from count q. masks-after s ok first raw (j .held) (i % 147) from count (omega arith) q;
       cells = cells-after s ok first raw (j .held);
     })

@@ -2,10 +2,11 @@
 use Prim.Native.Nat.{ℕ, _+_, _*_, _%_, _^_, _<_}
 use mathlib.Core.Path.{_≡_}
 use mathlib.Core.Bool.{true}
+use mathlib.Core.List.{[], _∷_}
 use lib.Dec.{eqb}
 use Rattle.base.specs.Pick.{pick}
 use Rattle.log_raw.specs.Raw.{Raw, byteOf, hasSpelling}
-use Rattle.log_raw.specs.Struct.{rawOf}
+use Rattle.log_raw.specs.Struct.{rawOf, rawFrom}
 use Rattle.log_raw.specs.declared.RawBytes.{RawBytes}
 use Rattle.state_parts.specs.declared.profile.Profile.{Profile}
 use Rattle.state_parts.specs.declared.state.State.{State}
@@ -54,3 +55,15 @@ TurnsAsSet = (s : State) (i n step code : ℕ) (raw : RawBytes) → fieldAt i .a
 abbrev pub ReadBytesCarry : Type 0
 ReadBytesCarry = (p : Profile) (code : Field → ℕ) (i : ℕ) (raw : Raw) → hasSpelling raw ≡ true → raw .count ≡ registerSize p (fieldAt i .address)
     → ((k : ℕ) → k < raw .count → byteOf raw k ≡ byteBy p code (fieldAt i .address + k)) → Carries p code (fieldAt i .address) raw
+
+-- The bytes themselves: a register's, as they would be read if its fields had these codes. "Sixteen-bit registers are little-endian".
+abbrev pub registerBytes : Profile → (Field → ℕ) → ℕ → RawBytes
+registerBytes p code address =
+    let upper = pick (inMiddle p (address + 1)) (byteBy p code (address + 1)) 0 in
+    rawFrom (registerSize p address) ((byteBy p code address + 256 * upper) ∷ [])
+
+-- so the theorem said of them, with nothing left to suppose: of every state, every field that is a setting, and every code
+abbrev pub ReadBytesAsSet : Type 0
+ReadBytesAsSet = (s : State) (i n step code : ℕ) → fieldAt i .access ≡ Setting n step → code < 2 ^ fieldAt i .width
+    → turnedBy (On s) (Follows (WriteRun (fieldAt i .address) (registerBytes (s .profile) (recoded s (fieldAt i) code) (fieldAt i .address))))
+    ≡ turnedBy (On s) (Follows (Set n (code * step)))

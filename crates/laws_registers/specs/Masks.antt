@@ -39,7 +39,7 @@ pub record MasksAsSet : Type 0 where
   pub low : (s : State) (raw : Raw) → stateOk s ≡ true → MaskByte s 0x22 raw → runFrom s 0x22 raw ≡ setOf s 14 (masksLow (byteOf raw 0) (s .settings .masks))
   pub high : (s : State) (raw : Raw) → stateOk s ≡ true → MaskByte s 0x23 raw → runFrom s 0x23 raw ≡ setOf s 14 (masksHigh (byteOf raw 0) (s .settings .masks))
 
--- "By single mask fields it is false where bits 0 and 1 differ": on no such state is a run of CHARGE_MASK's bytes the set of bit 6 alone, for PG_MASK in the same byte sets both bits alike
+-- CHARGE_MASK, as its row of the table has it
 abbrev pub chargeMask : Field
 chargeMask = row 0x22 0 1 (Mask 6 1) 0 true
 
@@ -47,6 +47,7 @@ chargeMask = row 0x22 0 1 (Mask 6 1) 0 true
 abbrev pub Differ : State → Type 0
 Differ s = bitAt 0 (s .settings .masks) ≡ bitAt 1 (s .settings .masks) → ⊥
 
+-- "By single mask fields it is false where bits 0 and 1 differ": on no such state is a run of CHARGE_MASK's bytes the set of bit 6 alone, for PG_MASK in the same byte sets both bits alike
 abbrev pub NotSingleMasks : Type 0
 NotSingleMasks = (s : State) (code : ℕ) (raw : Raw) → stateOk s ≡ true → Differ s → FieldBytes s chargeMask code raw
     → runFrom s 0x22 raw ≡ setOf s 14 (putAt 6 1 code (s .settings .masks)) → ⊥

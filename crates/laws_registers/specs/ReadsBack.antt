@@ -1,18 +1,20 @@
 -- What a run that isn't refused leaves, field by field: what was written, and nothing else.
-use Prim.Native.Nat.{ℕ, _-_, _*_}
+use Prim.Native.Nat.{ℕ, _-_, _*_, _^_}
 use mathlib.Core.Path.{_≡_}
 use mathlib.Core.Bool.{Bool, true, false, _&&_}
 use mathlib.Core.Logic.{_⊎_}
+use lib.Dec.{eqb}
 use Rattle.base.specs.Pick.{pick}
 use Rattle.base.specs.Told.{accepted}
 use Rattle.log_raw.specs.Raw.{Raw, byteOf}
 use Rattle.state_fields.specs.Held.{fieldOf}
+use Rattle.state_fields.specs.Words.{bitsAt}
 use Rattle.state_parts.specs.declared.state.State.{State}
 use Rattle.state_registers.specs.Writes.{countTaken}
 use Rattle.state_settings.specs.Numbered.{heldOf}
 use Rattle.state_table.specs.Rows.{cellPin, isStored}
 use Rattle.state_table.specs.Packed.{fieldAt}
-use Rattle.state_table.specs.declared.Access.the-variants.{Setting}
+use Rattle.state_table.specs.declared.Access.the-variants.{Setting, Mask}
 use Rattle.state_valid.specs.Holds.{stateOk}
 use Rattle.state_runs.specs.Bytes.{valueIn, isWritten, writtenCode}
 use Rattle.state_runs.specs.Runs.{writeRunOf}
@@ -28,6 +30,10 @@ pub record LeavesAsWritten (s : State) (first : ℕ) (raw : Raw) (t : State) : T
   -- each field that is a setting has its code's value, every other stands; but VREG and VSYSMIN by the CELL_PIN rule, where a count is taken
   pub settings : (i n step : ℕ) → fieldAt i .access ≡ Setting n step → (takesCount s first raw ≡ false) ⊎ ((n ≡ 1 → ⊥) × (n ≡ 6 → ⊥))
       → heldOf (t .settings) n ≡ pick (isWritten first (raw .count) (fieldAt i)) (writtenCode (byteOf raw) first (fieldAt i) * step) (heldOf (s .settings) n)
+  -- "PG_MASK .. a write sets both": the bits of each mask of the run are all its code, those of every other stand
+  pub masks : (i from count : ℕ) → fieldAt i .access ≡ Mask from count
+      → bitsAt from count (t .settings .masks)
+      ≡ pick (isWritten first (raw .count) (fieldAt i)) (pick (eqb (writtenCode (byteOf raw) first (fieldAt i)) 0) 0 (2 ^ count - 1)) (bitsAt from count (s .settings .masks))
   -- the count
   pub cells : t .registers .cells ≡ pick (takesCount s first raw) (writtenCode (byteOf raw) first cellPin) (s .registers .cells)
 
