@@ -21,3 +21,4 @@ pub mod Splits
 mod MaskBits
 pub mod Masks
 pub mod ReadsBack
+pub mod Settled

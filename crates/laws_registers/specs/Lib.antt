@@ -7,3 +7,4 @@ pub mod Alike
 pub mod Splits
 pub mod Masks
 pub mod ReadsBack
+pub mod Settled
