@@ -1,6 +1,7 @@
 // The register reset.
 ghost use mathlib.Core.Path.{_≡_};
-ghost use Rattle.state_registers.specs.Resets.{resetRegisters};
+ghost use Rattle.state_parts.specs.With.{withRegisters};
+ghost use Rattle.state_registers.specs.Resets.{resetRegisters, resetOf};
 ghost use Rattle.state_registers.specs.Contracts.{ResetPromise};
 use state_fields::holding::restored;
 use state_parts::profile::Profile;
@@ -20,12 +21,12 @@ fn restore(p: Profile, g: Registers) -> Registers
     n
 }
 
-// The state after a register reset, before it settles.
-pub fn reset(s: State) -> State
-    ensures { λ r. ⌜ ResetPromise s r ⌝ }
+// The state with these registers after a register reset, before it settles.
+pub fn reset_with(s: State, g: Registers) -> State
+    ensures { λ r. ⌜ r ≡ resetOf (withRegisters s g) ⌝ }
 {
-    let settings = start_settings(s.profile, s.registers.cells);
-    let registers = restore(s.profile, s.registers);
+    let settings = start_settings(s.profile, g.cells);
+    let registers = restore(s.profile, g);
     let cycle = start_cycle();
     let watchdog = start_watchdog();
     let mut n = s;
@@ -34,4 +35,12 @@ pub fn reset(s: State) -> State
     n.cycle = cycle;
     n.watchdog = watchdog;
     n
+}
+
+// The state after a register reset, before it settles.
+pub fn reset(s: State) -> State
+    ensures { λ r. ⌜ ResetPromise s r ⌝ }
+{
+    let g = s.registers;
+    reset_with(s, g)
 }

@@ -4,6 +4,7 @@ use Prim.Native.Nat.{ℕ, _+_}
 use mathlib.Core.Bool.{Bool, false, not, _&&_, _||_}
 use lib.Dec.{leb, ltb, eqb}
 use Rattle.base.specs.Pick.{pick}
+use Rattle.base.specs.Refusals.{refusalNumber}
 use Rattle.base.specs.Told.{Told, accepted, refused}
 use Rattle.log_raw.specs.Raw.{Raw, byteOf, hasSpelling}
 use Rattle.state_parts.specs.With.{withSettings, withRegisters}
@@ -15,6 +16,8 @@ use Rattle.state_table.specs.Packed.{upperHalf}
 use Rattle.state_runs.specs.Bytes.{valueIn, stepwise, isWritten, writtenCode}
 use Rattle.state_runs.specs.Registers.{badRegister, registerTaken}
 use Rattle.state_runs.specs.declared.registers.Kept.{Kept}
+use Rattle.state_runs.specs.declared.run.RunAnswer.{RunAnswer}
+use Rattle.state_runs.specs.declared.run.RunAnswer.the-variants.{Taken, Refused}
 
 -- "a run touching an address outside the map" (10)
 abbrev pub outside : ℕ → ℕ → Bool
@@ -50,6 +53,11 @@ keptOf s = record { settings = s .settings; words = s .registers .words; cells =
 
 abbrev pub withKept : State → Kept → State
 withKept s k = withRegisters (withSettings s (k .settings)) (record { words = k .words; cells = k .cells })
+
+-- a run's answer on a state, in the paper's numbers
+abbrev pub runTold : State → RunAnswer → Told State
+runTold s (Taken k) = accepted (withKept s k)
+runTold s (Refused r) = refused (refusalNumber r)
 
 -- the state as written: before reset and service bits act, and before it settles
 unfoldable pub writtenRun : State → ℕ → Raw → State

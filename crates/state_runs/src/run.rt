@@ -6,7 +6,7 @@ ghost use Prim.Native.Nat.{_+_, _-_, _≤_};
 ghost use Rattle.log_raw.specs.Raw.{byteOf};
 ghost use Rattle.log_raw.specs.Struct.{rawOf};
 ghost use Rattle.state_runs.specs.Bytes.{valueIn};
-ghost use Rattle.state_runs.specs.Runs.{inMiddle, illegalFrequency, badRun, keptRun, writtenRun, resets, serves};
+ghost use Rattle.state_runs.specs.Runs.{inMiddle, illegalFrequency, badRun, keptRun, keptOf, resets, serves};
 ghost use Rattle.state_runs.specs.Contracts.{RunPromise};
 use crate::bytes::value_in;
 use crate::registers::Kept;
@@ -18,8 +18,13 @@ use log_raw::bytes::has_spelling;
 use state_parts::profile::Profile;
 use state_parts::registers::Registers;
 use state_parts::state::State;
-use state_registers::writing::WriteAnswer;
 use state_table::rows_below;
+
+// What a run leaves of what it may change, or the refusal.
+pub enum RunAnswer {
+    Taken(Kept),
+    Refused(Refusal),
+}
 
 // Whether an address is the middle of a register.
 fn in_middle(p: Profile, address: u32) -> bool
@@ -110,54 +115,42 @@ fn kept_run(p: Profile, before: Registers, first: u32, raw: RawBytes, k: Kept) -
     u
 }
 
-// The state as written.
-fn written_run(s: State, first: u32, raw: RawBytes) -> State
-    requires { ⌜ first + raw .length ≤ 39 ⌝ }
-    ensures { λ r. ⌜ r ≡ writtenRun s first (rawOf raw) ⌝ }
+// What runs change of a state, as it stands.
+fn kept_of(s: State) -> Kept
+    ensures { λ r. ⌜ r ≡ keptOf s ⌝ }
 {
-    let before = s.registers;
-    let held = s.settings;
-    let stored = before.words;
-    let cells = before.cells;
-    let k = Kept {
-        settings: held,
-        words: stored,
-        cells: cells,
-    };
-    let kept = kept_run(s.profile, before, first, raw, k);
-    let settings = kept.settings;
-    let words = kept.words;
-    let count = kept.cells;
-    let registers = Registers {
+    let settings = s.settings;
+    let words = s.registers.words;
+    let cells = s.registers.cells;
+    Kept {
+        settings: settings,
         words: words,
-        cells: count,
-    };
-    let mut n = s;
-    n.settings = settings;
-    n.registers = registers;
-    n
+        cells: cells,
+    }
 }
 
-// The host writes a run of bytes from an address on.
-pub fn run(s: State, first: u32, raw: RawBytes) -> WriteAnswer
+// The host writes a run of bytes from an address on. What it changes is handed back, and not the state: a copy of that is large.
+pub fn run(s: State, first: u32, raw: RawBytes) -> RunAnswer
     ensures { λ r. ⌜ RunPromise s first raw r ⌝ }
 {
     if !has_spelling(raw) {
-        return WriteAnswer::Refused(Refusal::OutOfRange);
+        return RunAnswer::Refused(Refusal::OutOfRange);
     }
     let end = (first as u64) + (raw.length as u64);
     if 39 < end {
-        return WriteAnswer::Refused(Refusal::UnknownAddress);
+        return RunAnswer::Refused(Refusal::UnknownAddress);
     }
     let p = s.profile;
     if in_middle(p, first) | in_middle(p, first + raw.length) {
-        return WriteAnswer::Refused(Refusal::HalfRegister);
+        return RunAnswer::Refused(Refusal::HalfRegister);
     }
     if bad_frequency(p, first, raw) {
-        return WriteAnswer::Refused(Refusal::BadFrequency);
+        return RunAnswer::Refused(Refusal::BadFrequency);
     }
     if bad_run(p, first, raw) {
-        return WriteAnswer::Refused(Refusal::BadValue);
+        return RunAnswer::Refused(Refusal::BadValue);
     }
-    WriteAnswer::Stored(written_run(s, first, raw))
+    let before = s.registers;
+    let held = kept_of(s);
+    RunAnswer::Taken(kept_run(p, before, first, raw, held))
 }

@@ -1,6 +1,8 @@
 // The kinds of events that time has no part in: what each writes, or its refusal.
 ghost use mathlib.Core.Path.{_≡_};
-ghost use Rattle.state_parts.specs.With.{withSettings};
+ghost use Rattle.state_parts.specs.With.{withSettings, withWatchdog};
+ghost use Rattle.state_start.specs.Values.{startWatchdog};
+ghost use Rattle.state_runs.specs.Runs.{withKept};
 ghost use Rattle.base.specs.Pick.{pick};
 ghost use Rattle.log_raw.specs.Struct.{rawOf};
 ghost use Rattle.state_registers.specs.Resets.{resetOf};
@@ -12,12 +14,16 @@ use base::refusal::Refusal;
 use log_raw::RawBytes;
 use report_registers::flags;
 use state_parts::profile::Profile;
+use state_parts::registers::Registers;
 use state_parts::settings::Settings;
 use state_parts::state::State;
+use state_parts::watchdog::Watchdog;
 use state_registers::resetting;
 use state_registers::writing;
 use state_registers::writing::WriteAnswer;
+use state_runs::registers::Kept;
 use state_runs::run;
+use state_runs::run::RunAnswer;
 use state_settings::numbered;
 use state_settings::ranges;
 
@@ -71,28 +77,59 @@ pub fn serviced(s: State) -> State
     r
 }
 
-// The state after a register reset, if one is asked for.
-fn reset_if(asked: bool, s: State) -> State
-    ensures { λ r. ⌜ r ≡ pick asked (resetOf s) s ⌝ }
+// The watchdog at zero, if that is asked for.
+fn served_if(asked: bool, w: Watchdog) -> Watchdog
+    ensures { λ r. ⌜ r ≡ pick asked startWatchdog w ⌝ }
 {
-    if asked { resetting::reset(s) } else { s }
+    if asked {
+        state_start::start_watchdog()
+    } else {
+        w
+    }
 }
 
-// The state with the watchdog served, if that is asked for.
-fn serviced_if(asked: bool, s: State) -> State
-    ensures { λ r. ⌜ r ≡ pick asked (servicedOf s) s ⌝ }
+// The state with what a run leaves, and with the watchdog served if that is asked for.
+fn kept_in(s: State, k: Kept, serves: bool) -> State
+    ensures { λ r. ⌜ r ≡ withWatchdog (withKept s k) (pick serves startWatchdog (s .watchdog)) ⌝ }
 {
-    if asked { serviced(s) } else { s }
+    let settings = k.settings;
+    let words = k.words;
+    let cells = k.cells;
+    let registers = Registers {
+        words: words,
+        cells: cells,
+    };
+    let watchdog = served_if(serves, s.watchdog);
+    let mut r = s;
+    r.settings = settings;
+    r.registers = registers;
+    r.watchdog = watchdog;
+    r
+}
+
+// The same where a run resets the registers: the settings start anew, and the watchdog is at zero either way.
+fn kept_reset(s: State, k: Kept) -> State
+    ensures { λ r. ⌜ r ≡ resetOf (withKept s k) ⌝ }
+{
+    let words = k.words;
+    let cells = k.cells;
+    let registers = Registers {
+        words: words,
+        cells: cells,
+    };
+    resetting::reset_with(s, registers)
 }
 
 // What the reset and service bits of a run do, after its other bytes.
-fn acted(s: State, address: u32, raw: RawBytes) -> State
-    ensures { λ r. ⌜ r ≡ actedOf s address (rawOf raw) ⌝ }
+fn acted(s: State, k: Kept, address: u32, raw: RawBytes) -> State
+    ensures { λ r. ⌜ r ≡ actedOf (withKept s k) address (rawOf raw) ⌝ }
 {
-    let resets = run::resets(address, raw);
     let serves = run::serves(address, raw);
-    let reset = reset_if(resets, s);
-    serviced_if(serves, reset)
+    if run::resets(address, raw) {
+        kept_reset(s, k)
+    } else {
+        kept_in(s, k, serves)
+    }
 }
 
 // A run of bytes from an address on.
@@ -100,8 +137,8 @@ pub fn write_run(s: State, address: u32, raw: RawBytes) -> Change
     ensures { λ r. ⌜ RunPromise s address raw r ⌝ }
 {
     match run::run(s, address, raw) {
-        WriteAnswer::Stored(written) => Change::Made(acted(written, address, raw), Way::Plain),
-        WriteAnswer::Refused(r) => Change::Refused(r),
+        RunAnswer::Taken(k) => Change::Made(acted(s, k, address, raw), Way::Plain),
+        RunAnswer::Refused(r) => Change::Refused(r),
     }
 }
 

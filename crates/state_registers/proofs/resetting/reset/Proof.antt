@@ -1,13 +1,9 @@
--- `reset`: its calls' results in place.
-use Rattle.state_registers.specs.Resets.{resetOf}
+-- `reset`: the state's own registers.
 use Rattle.state_registers.proofs.resetting.reset.Statement.{statement}
 use Rattle.state_registers.proofs.resetting.reset.Tie as tie
 
 returns : tie.Need-returns
-unfolding resetOf
-returns c = simp (c .start-watchdog .ensures, c .before .start-cycle .ensures, c .before .before .restore .ensures, c .before .before .before .start-settings .ensures)
+returns c = simp (c .reset-with .ensures)
 
 pub reset-spec : {M : Type 1} → statement M
-reset-spec =
-    tie.close
-    (tie.spec (λ c κs. tt) (λ c κs. tt) (λ c κs. tt) (λ c κs. tt) returns)
+reset-spec = tie.close (tie.spec (λ c κs. tt) returns)

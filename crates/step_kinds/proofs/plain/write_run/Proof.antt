@@ -5,7 +5,7 @@ use Rattle.step_kinds.proofs.plain.write_run.Statement.{statement}
 use Rattle.step_kinds.proofs.plain.write_run.Tie as tie
 
 returns : tie.Need-returns
-returns c = ran _ _ _ _ _ _ (c .before .before .written .given .1) (c .before .before .before .before .run .ensures) (c .acted .ensures)
+returns c = ran _ _ _ _ _ _ (c .before .before .k .given .1) (c .before .before .before .before .run .ensures) (c .acted .ensures)
 
 returns-2 : tie.Need-returns-2
 returns-2 c = not-ran _ _ _ _ _ (c .before .r .given .1) (c .before .before .before .run .ensures)
