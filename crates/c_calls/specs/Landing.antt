@@ -45,7 +45,7 @@ withRoom (accepted m) room wanted = pick (ltb room wanted) (refused 12) (accepte
 unfoldable pub readyOf : List ℕ → ℕ → ℕ → Told Model
 readyOf image room wanted = withRoom (modelIn image) room wanted
 
--- "what an accepted event shows: phase, current, voltage, input limit, pulse, held flags, and the flags that the event handed back (kind 4)"
+-- "what an accepted event shows: phase, current, voltage, input limit, pulse, held flags, and what the event handed back: kind 4 the flags, kind 14 the register's byte, others 0"
 unfoldable pub shownNumbers : Model → Bool → ℕ → List ℕ
 shownNumbers Off pulse handed = 0 ∷ 0 ∷ 0 ∷ 0 ∷ bitOf pulse ∷ 0 ∷ handed ∷ []
 shownNumbers (On s) pulse handed =

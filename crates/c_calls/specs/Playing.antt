@@ -26,13 +26,13 @@ offOf image = pick (isLong image) (left (answered 0) (imageOf Off)) (left (answe
 abbrev pub unread : ℕ → ℕ → ℕ → Played
 unread number told place = record { number = number; kind = 0; place = told; next = place }
 
--- "Unreadable: 1 to 4 and kind 0; `place` is of what decided it, and `next` the given place. At the log's end or past it: number 0 and kind 0, and no byte is changed."
+-- "Unreadable: 1 to 5 and kind 0; `place` is of what decided it, and `next` the given place. At the log's end or past it: number 0 and kind 0, and no byte is changed."
 abbrev pub stoppedOf : Met → ℕ → Played
 stoppedOf (met e next) place = unread 0 place place
 stoppedOf (log.refused number decided) place = unread number decided place
 stoppedOf end place = unread 0 place place
 
--- "Refused by the model: 5 to 11, with the kind, and `next` leads on to the next record."
+-- "Refused by the model: 5 to 11 or 15, with the kind, and `next` leads on to the next record."
 abbrev pub playedOf : Event → ℕ → ℕ → Both ℕ → Both Played
 playedOf e place next l = both (record { number = l .answer; kind = kindByte (kindOf e); place = place; next = next }) (l .image) (l .shown)
 

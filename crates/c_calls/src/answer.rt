@@ -29,7 +29,7 @@ pub struct Played {
 #[repr(C)]
 pub struct Replayed {
     pub number: u32,
-    // 0 at the log's end; else 1 to 4, of what can't be read
+    // 0 at the log's end; else 1 to 5, of what can't be read
     pub code: u32,
     // how many were read
     pub records: usize,

@@ -38,7 +38,7 @@ use Rattle.laws_demands.specs.Printed.{printedBy, refusedRun, RunText}
 
 -- "Each accepted event moves the model as document 01 says"
 pub record Moves (step : Step) : Type 0 where
-  -- "No | Given exactly when", 5 to 11, of every model
+  -- "No | Given exactly when", 5 to 11 and 15, of every model
   pub refuses : (n : ℕ) → 1 ≤ n → (m : Model) (e : Event) → (step m e .number ≡ n) ↔ Row n m e
   -- after every history of events what the account of it says
   pub moves : (h : Past) → Lawful h → (e : Event) → step (modelOf h) e ≡ outcomeOf h e

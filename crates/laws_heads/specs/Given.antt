@@ -26,7 +26,7 @@ pub data EventGives (kind : ℕ) (words : List ℕ) (room : ℕ) : List Event �
   -- "words that aren't as many are 5."
   not-as-many : (e : Event) (is : List Item) → Listed e kind is → length words ≢ length (values is) * 4 → EventGives kind words room []
 
--- what is no record, its number and what is told of its place: "Unreadable: 1 to 4 and kind 0; `place` is of what decided it", "At the log's end or past it: number 0 and kind 0, and no
+-- what is no record, its number and what is told of its place: "Unreadable: 1 to 5 and kind 0; `place` is of what decided it", "At the log's end or past it: number 0 and kind 0, and no
 -- byte is changed."
 pub data NoRecordAt (log : List ℕ) (place : ℕ) : ℕ → ℕ → Type 0 where
   unreadable : (n decided : ℕ) → LogRow n log place decided → NoRecordAt log place n decided
