@@ -39,26 +39,21 @@ pub fn count_taken(g: Registers, address: u32, byte: u32) -> bool
     (address == 0x1B) & overridden & !(count == 0) & !(count == cells)
 }
 
-// The settings after a cell count is taken.
-pub fn recount(p: Profile, cells: u32, t: Settings) -> Settings
-    ensures { λ r. ⌜ r ≡ recounted p cells t ⌝ }
+// The settings with a written cell count, where that is taken. The two that go by it are chosen one by one: a choice between whole settings lays both of them, and the state that one
+// is part of, on the stack.
+pub fn recount(count: bool, p: Profile, cells: u32, t: Settings) -> Settings
+    ensures { λ r. ⌜ r ≡ pick count (recounted p cells t) t ⌝ }
 {
     let fault = p.vchg == 0;
     let each = pins::vchg(p);
     let full = in_pack(each, cells);
-    let vreg = volts::either(fault, t.vreg, full);
-    let vsysmin = start_vsysmin(p, cells);
+    let vreg = volts::either(count & !fault, full, t.vreg);
+    let start = start_vsysmin(p, cells);
+    let vsysmin = volts::either(count, start, t.vsysmin);
     let mut n = t;
     n.vreg = vreg;
     n.vsysmin = vsysmin;
     n
-}
-
-// The first settings if the test holds, else the other.
-pub fn either(test: bool, one: Settings, other: Settings) -> Settings
-    ensures { λ r. ⌜ r ≡ pick test one other ⌝ }
-{
-    if test { one } else { other }
 }
 
 // The state after a write that isn't refused.
@@ -67,8 +62,7 @@ fn written(s: State, address: u32, byte: u32) -> State
 {
     let held = s.registers;
     let count = count_taken(held, address, byte);
-    let anew = recount(s.profile, byte / 1 % 8, s.settings);
-    let settings = either(count, anew, s.settings);
+    let settings = recount(count, s.profile, byte / 1 % 8, s.settings);
     let words = taken(s.profile, held.words, address, byte);
     let cells = choice::number(count, byte / 1 % 8, held.cells);
     let registers = Registers {

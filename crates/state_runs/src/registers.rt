@@ -143,8 +143,7 @@ pub fn register_taken(p: Profile, before: Registers, address: u32, value: u32, k
 {
     let count = writing::count_taken(before, address, value);
     let given = settings_taken(p, k.settings, address, value);
-    let anew = writing::recount(p, value / 1 % 8, given);
-    let settings = writing::either(count, anew, given);
+    let settings = writing::recount(count, p, value / 1 % 8, given);
     let words = taken(p, k.words, address, value);
     let cells = choice::number(count, value / 1 % 8, k.cells);
     Kept {
