@@ -11,6 +11,7 @@ use Rattle.base.specs.Pick.{pick}
 use Rattle.base.specs.Told.{Told, accepted, refused}
 use Rattle.log_raw.specs.Raw.{Raw, byteOf}
 use Rattle.log_raw.specs.Struct.{rawOf}
+use Rattle.log_raw.specs.declared.RawBytes.{RawBytes}
 use Rattle.report_registers.specs.Reads.{codeBy, codeOf}
 use Rattle.state_fields.specs.Held.{takenBy}
 use Rattle.state_fields.proofs.Fields.{field-mod}
@@ -38,6 +39,8 @@ use Rattle.state_valid.proofs.Wholes.{apart}
 use Rattle.step_kinds.specs.Changes.{changed}
 use Rattle.step_kinds.specs.declared.change.Way.the-variants.{Plain}
 use Rattle.step_kinds.specs.Plain.{setOf, actedOf, afterRun, runFrom}
+use Rattle.step_turns.specs.declared.later.Later.the-variants.{Set, WriteRun}
+use Rattle.step_turns.specs.declared.turn.Turn.the-variants.{Follows}
 use Rattle.step_event.specs.Steps.{closedBy, followedOf, movedOf, changeOf, turnedBy}
 use Rattle.laws_registers.specs.Fields.{registerSize, recoded, FieldBytes, WritesAsSet, TurnsAsSet}
 use Rattle.laws_registers.proofs.Folds.{over-one}
@@ -251,11 +254,15 @@ pub writes-as-set : WritesAsSet
 unfolding fieldAt
 writes-as-set s i n step code raw ok here small given = as-set s ok (i % 147) n step code (omega arith) here small raw given
 
-pub turns-as-set : TurnsAsSet
+-- a run that writes what a set writes has the set's outcome; on a state that doesn't pass both are 5
+pub turns-as : (s : State) (address : ℕ) (raw : RawBytes) (n value : ℕ) → (stateOk s ≡ true → runFrom s address (rawOf raw) ≡ setOf s n value)
+    → turnedBy (On s) (Follows (WriteRun address raw)) ≡ turnedBy (On s) (Follows (Set n value))
 unfolding turnedBy changeOf movedOf followedOf
-turns-as-set s i n step code raw here small given = ap (closedBy (On s)) (go (stateOk s) refl)
+turns-as s address raw n value same = ap (closedBy (On s)) (go (stateOk s) refl)
   where
-    go : (b : Bool) → stateOk s ≡ b
-        → pick b (runFrom s (fieldAt i .address) (rawOf raw)) (refused 5) ≡ pick b (setOf s n (code * step)) (refused 5)
-    go true ok = writes-as-set s i n step code (rawOf raw) ok here small given
+    go : (b : Bool) → stateOk s ≡ b → pick b (runFrom s address (rawOf raw)) (refused 5) ≡ pick b (setOf s n value) (refused 5)
+    go true ok = same ok
     go false ok = refl
+
+pub turns-as-set : TurnsAsSet
+turns-as-set s i n step code raw here small given = turns-as s (fieldAt i .address) raw n (code * step) (λ ok. writes-as-set s i n step code (rawOf raw) ok here small given)

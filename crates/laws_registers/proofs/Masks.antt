@@ -8,6 +8,7 @@ use borrow.Author.Tests.{ne-eqb}
 use Rattle.base.specs.Pick.{pick}
 use Rattle.base.specs.Told.{Told, accepted, refused}
 use Rattle.log_raw.specs.Raw.{Raw, byteOf}
+use Rattle.log_raw.specs.Struct.{rawOf}
 use Rattle.report_registers.specs.Reads.{codeOf}
 use Rattle.state_fields.specs.Held.{fieldOf, takenBy}
 use Rattle.state_fields.specs.Words.{putAt}
@@ -31,8 +32,9 @@ use Rattle.step_kinds.specs.Changes.{Changed}
 use Rattle.step_kinds.specs.Plain.{setOf, actedOf, afterRun, runFrom}
 use Rattle.laws_registers.specs.Bytes.{OneByte}
 use Rattle.laws_registers.specs.Fields.{FieldBytes}
-use Rattle.laws_registers.specs.Masks.{bitAt, masksLow, masksHigh, MaskByte, chargeMask, MasksAsSet, NotSingleMasks, MasksMayDiffer}
+use Rattle.laws_registers.specs.Masks.{bitAt, masksLow, masksHigh, MaskByte, chargeMask, MasksAsSet, MasksTurnAsSet, NotSingleMasks, MasksMayDiffer}
 use Rattle.laws_registers.proofs.Bytes.{value-is, byte-taken, byte-judged}
+use Rattle.laws_registers.proofs.Fields.{turns-as}
 use Rattle.laws_registers.proofs.MaskBits.{low-masks, high-masks, low-small, high-small, low-alike}
 use Rattle.laws_registers.proofs.Places.{by-number, bits-apart}
 use Rattle.laws_registers.proofs.Words.{stored-code, words-held}
@@ -107,6 +109,13 @@ masks-as-set =
       high = λ s raw ok given.
           let held : s .settings .masks < 4096 = masks-low (s .profile) (s .settings) (apart s ok .settings) in
           as-set s ok 0x23 (open-high (s .profile)) raw given (masksHigh (byteOf raw 0) (s .settings .masks)) (high-small (byteOf raw 0) (s .settings .masks)) (set-high (s .profile) (byteOf raw 0) (s .settings) held);
+    }
+
+pub masks-turn-as-set : MasksTurnAsSet
+masks-turn-as-set =
+    record {
+      low = λ s raw given. turns-as s 0x22 raw 14 (masksLow (byteOf (rawOf raw) 0) (s .settings .masks)) (λ ok. masks-as-set .low s (rawOf raw) ok given);
+      high = λ s raw given. turns-as s 0x23 raw 14 (masksHigh (byteOf (rawOf raw) 0) (s .settings .masks)) (λ ok. masks-as-set .high s (rawOf raw) ok given);
     }
 
 -- CHARGE_MASK is the table's field 125, and not stored

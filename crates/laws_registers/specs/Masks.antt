@@ -3,18 +3,24 @@ use Prim.Native.Nat.{ℕ, _+_, _*_, _/_, _%_, _^_}
 use mathlib.Core.Path.{_≡_}
 use mathlib.Core.Bool.{true}
 use Rattle.log_raw.specs.Raw.{Raw, byteOf}
+use Rattle.log_raw.specs.Struct.{rawOf}
+use Rattle.log_raw.specs.declared.RawBytes.{RawBytes}
 use Rattle.state_fields.specs.Held.{fieldOf}
 use Rattle.state_fields.specs.Words.{putAt}
 use Rattle.state_parts.specs.With.{withSettings}
 use Rattle.state_parts.specs.declared.state.State.{State}
+use Rattle.state_parts.specs.declared.state.Model.the-variants.{On}
 use Rattle.state_settings.specs.Numbered.{storeOf}
 use Rattle.state_table.specs.Rows.{Field, row, digitOf, isStored}
 use Rattle.state_table.specs.Packed.{fieldAt}
 use Rattle.state_table.specs.declared.Access.the-variants.{Mask}
 use Rattle.state_valid.specs.Holds.{stateOk}
+use Rattle.step_turns.specs.declared.later.Later.the-variants.{Set, WriteRun}
+use Rattle.step_turns.specs.declared.turn.Turn.the-variants.{Follows}
 use Rattle.step_kinds.specs.Changes.{changed}
 use Rattle.step_kinds.specs.declared.change.Way.the-variants.{Plain}
 use Rattle.step_kinds.specs.Plain.{setOf, runFrom}
+use Rattle.step_event.specs.Steps.{turnedBy}
 use Rattle.laws_registers.specs.Bytes.{OneByte}
 use Rattle.laws_registers.specs.Fields.{FieldBytes}
 
@@ -38,6 +44,13 @@ pub record MaskByte (s : State) (address : ℕ) (raw : Raw) : Type 0 where
 pub record MasksAsSet : Type 0 where
   pub low : (s : State) (raw : Raw) → stateOk s ≡ true → MaskByte s 0x22 raw → runFrom s 0x22 raw ≡ setOf s 14 (masksLow (byteOf raw 0) (s .settings .masks))
   pub high : (s : State) (raw : Raw) → stateOk s ≡ true → MaskByte s 0x23 raw → runFrom s 0x23 raw ≡ setOf s 14 (masksHigh (byteOf raw 0) (s .settings .masks))
+
+-- and so the two events have one outcome: state, flags and pulse
+pub record MasksTurnAsSet : Type 0 where
+  pub low : (s : State) (raw : RawBytes) → MaskByte s 0x22 (rawOf raw)
+      → turnedBy (On s) (Follows (WriteRun 0x22 raw)) ≡ turnedBy (On s) (Follows (Set 14 (masksLow (byteOf (rawOf raw) 0) (s .settings .masks))))
+  pub high : (s : State) (raw : RawBytes) → MaskByte s 0x23 (rawOf raw)
+      → turnedBy (On s) (Follows (WriteRun 0x23 raw)) ≡ turnedBy (On s) (Follows (Set 14 (masksHigh (byteOf (rawOf raw) 0) (s .settings .masks))))
 
 -- CHARGE_MASK, as its row of the table has it
 abbrev pub chargeMask : Field
