@@ -1,11 +1,13 @@
 -- A read of 0x20 and then of 0x21 takes the flags as kind 4 does.
-use Prim.Native.Nat.{ℕ, _+_, _*_, _/_, _%_}
+use Prim.Native.Nat.{ℕ, _+_, _*_, _/_, _%_, _^_, _≤_}
 use mathlib.Core.Path.{_≡_, refl, sym, ap, subst, _∙_}
 use mathlib.Core.Bool.{true, false, not}
 use native.Mathlib.Omega.{arith}
 use lib.Dec.{eqb}
 use Rattle.base.specs.Pick.{bitOf}
 use Rattle.report_registers.specs.Reads.{valueBy, flagByte}
+use Rattle.state_fields.specs.Words.{bitsAt}
+use Rattle.state_fields.proofs.Puts.{same-below, same-above}
 use Rattle.settle_all.specs.Settle.{forcedOf, settledOf, settleOf}
 use Rattle.settle_all.proofs.Once.{settles-once}
 use Rattle.state_parts.specs.Edges.{merged, pulseOf, noFlags}
@@ -24,28 +26,51 @@ use Rattle.step_kinds.specs.Plain.{readFlagsOf}
 use Rattle.step_event.specs.Steps.{followedOf, movedOf, changeOf, modelOk, seenOn, turnedBy}
 use Rattle.step_event.proofs.Keeps.{turned-passes}
 use Rattle.laws_step.proofs.TakenFlags.{flagged-settles, no-edges, merged-none, no-pulse}
-use Rattle.laws_registers.specs.Flags.{taken, firstRead, secondRead, TwoReads}
+use Rattle.laws_registers.specs.Flags.{taken, firstRead, secondRead, TwoReads, ClearsItsOwn}
 
--- the byte of 0x21 by what stands from flag 8, 9, 10 and 11 up
-abbrev isOdd : ℕ → ℕ
-isOdd n = bitOf (not (eqb (n % 2) 0))
+-- ---- the two bytes by the flags' bits: PG_FLAG by the first two together
+abbrev some : ℕ → ℕ
+some bits = bitOf (not (eqb bits 0)) % 2
 
-abbrev byteFrom : ℕ → ℕ → ℕ → ℕ → ℕ
-byteFrom eighth ninth tenth eleventh = (0 + isOdd ninth % 2 * 8 + 0 + isOdd eleventh % 2 * 32 + isOdd tenth % 2 * 64 + isOdd eighth % 2 * 128) % 256
+abbrev chargerFrom : ℕ → ℕ → ℕ → ℕ → ℕ → ℕ → ℕ → ℕ
+chargerFrom power second third fourth fifth sixth seventh =
+    (0 + some sixth * 1 + some seventh * 2 + 0 + some fifth * 8 + some fourth * 16 + some third * 32 + some second * 64 + some power * 128) % 256
 
-by-flags : (p : Profile) (n : ℕ) → flagByte p 0x21 n ≡ byteFrom (n / 256) (n / 512) (n / 1024) (n / 2048)
+abbrev faultFrom : ℕ → ℕ → ℕ → ℕ → ℕ
+faultFrom eighth ninth tenth eleventh = (0 + some ninth * 8 + 0 + some eleventh * 32 + some tenth * 64 + some eighth * 128) % 256
+
+charger-is : (p : Profile) (n : ℕ) → flagByte p 0x20 n ≡ chargerFrom (bitsAt 0 2 n) (bitsAt 2 1 n) (bitsAt 3 1 n) (bitsAt 4 1 n) (bitsAt 5 1 n) (bitsAt 6 1 n) (bitsAt 7 1 n)
 unfolding flagByte valueBy fieldsOf fields
-by-flags p n = refl
+charger-is p n = refl
 
--- they are above those that a read of 0x20 clears
-upper-stands : (p : Profile) (n : ℕ) → flagByte p 0x21 (n / 256 * 256) ≡ flagByte p 0x21 n
-upper-stands p n =
-    let m = n / 256 * 256 in
-    let eighth : m / 256 ≡ n / 256 = omega arith in
-    let ninth : m / 512 ≡ n / 512 = omega arith in
-    let tenth : m / 1024 ≡ n / 1024 = omega arith in
-    let eleventh : m / 2048 ≡ n / 2048 = omega arith in
-    by-flags p m ∙ (λ i. byteFrom (eighth i) (ninth i) (tenth i) (eleventh i)) ∙ sym (by-flags p n)
+fault-is : (p : Profile) (n : ℕ) → flagByte p 0x21 n ≡ faultFrom (bitsAt 8 1 n) (bitsAt 9 1 n) (bitsAt 10 1 n) (bitsAt 11 1 n)
+unfolding flagByte valueBy fieldsOf fields
+fault-is p n = refl
+
+-- so the one goes by the eight lowest flags, and the other by those above them
+module _ (p : Profile) (m n : ℕ) where
+  same-charger : m % 2 ^ 8 ≡ n % 2 ^ 8 → flagByte p 0x20 m ≡ flagByte p 0x20 n
+  same-charger e =
+      let bit : (k j : ℕ) → k + j ≤ 8 → bitsAt k j m ≡ bitsAt k j n = λ k j l. same-below 8 k j m n l e in
+      let at : (k : ℕ) → k + 1 ≤ 8 → bitsAt k 1 m ≡ bitsAt k 1 n = λ k l. bit k 1 l in
+      let power = bit 0 2 (omega arith) in
+      charger-is p m
+      ∙ (λ i. chargerFrom (power i) (at 2 (omega arith) i) (at 3 (omega arith) i) (at 4 (omega arith) i) (at 5 (omega arith) i) (at 6 (omega arith) i) (at 7 (omega arith) i))
+      ∙ sym (charger-is p n)
+
+  same-fault : m / 2 ^ 8 ≡ n / 2 ^ 8 → flagByte p 0x21 m ≡ flagByte p 0x21 n
+  same-fault e =
+      let at : (k : ℕ) → 8 ≤ k → bitsAt k 1 m ≡ bitsAt k 1 n = λ k l. same-above 8 k 1 m n l e in
+      fault-is p m ∙ (λ i. faultFrom (at 8 (omega arith) i) (at 9 (omega arith) i) (at 10 (omega arith) i) (at 11 (omega arith) i)) ∙ sym (fault-is p n)
+
+pub clears-its-own : ClearsItsOwn
+clears-its-own p n =
+    record {
+      charger = same-charger p (n / 256 * 256) 0 (omega arith) ∙ charger-is p 0;
+      fault = same-fault p (n % 256) 0 (omega arith) ∙ fault-is p 0;
+      fault-stands = same-fault p (n / 256 * 256) n (omega arith);
+      charger-stands = same-charger p (n % 256) n (omega arith);
+    }
 
 module _ (s : State) (ok : stateOk s ≡ true) where
   -- the state settled, and all flags then
@@ -101,6 +126,6 @@ two-reads s ok =
       second-pulse = ap (λ (o : Outcome). o .pulse) (second-is s ok);
       first-byte = ap (λ (o : Outcome). o .handed) (first-is s ok) ∙ ap (λ (p : Profile). flagByte p 0x20 (all s ok)) (same-profile s ok)
           ∙ sym (ap (λ (o : Outcome). flagByte (s .profile) 0x20 (o .handed)) (taken-is s ok));
-      second-byte = ap (λ (o : Outcome). o .handed) (second-is s ok) ∙ upper-stands (after s ok .profile) (all s ok) ∙ ap (λ (p : Profile). flagByte p 0x21 (all s ok)) (same-profile s ok)
+      second-byte = ap (λ (o : Outcome). o .handed) (second-is s ok) ∙ clears-its-own (after s ok .profile) (all s ok) .fault-stands ∙ ap (λ (p : Profile). flagByte p 0x21 (all s ok)) (same-profile s ok)
           ∙ sym (ap (λ (o : Outcome). flagByte (s .profile) 0x21 (o .handed)) (taken-is s ok));
     }

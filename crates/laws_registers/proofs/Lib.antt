@@ -22,3 +22,4 @@ mod MaskBits
 pub mod Masks
 pub mod ReadsBack
 pub mod Settled
+pub mod Acts

@@ -146,5 +146,6 @@ runs-read-back s first raw t ok e =
       stored = λ i st. stored-after s ok first raw (j .held) (i % 147) (omega arith) st;
       settings = λ i n step q spared. settings-after s ok first raw (j .held) (i % 147) n step (omega arith) q spared;
       masks = λ i from count q. masks-after s ok first raw (j .held) (i % 147) from count (omega arith) q;
+      others = refl;
       cells = cells-after s ok first raw (j .held);
     })

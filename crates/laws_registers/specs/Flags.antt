@@ -1,13 +1,16 @@
 -- What is proved of reads of the flag registers beside kind 4.
+use Prim.Native.Nat.{ℕ}
 use mathlib.Core.Path.{_≡_}
 use mathlib.Core.Bool.{true, false}
 use Rattle.report_registers.specs.Reads.{flagByte}
+use Rattle.state_parts.specs.declared.profile.Profile.{Profile}
 use Rattle.state_parts.specs.declared.state.State.{State}
 use Rattle.state_parts.specs.declared.state.Model.the-variants.{On}
 use Rattle.state_valid.specs.Holds.{stateOk}
 use Rattle.step_turns.specs.declared.later.Later.the-variants.{TakeFlags, ReadFlags}
 use Rattle.step_turns.specs.declared.turn.Turn.the-variants.{Follows}
 use Rattle.step_kinds.specs.Answers.{Outcome}
+use Rattle.step_kinds.specs.Finish.{flagsLeft}
 use Rattle.step_event.specs.Steps.{turnedBy}
 
 abbrev pub taken : State → Outcome
@@ -32,3 +35,13 @@ pub record ReadsAsTaken (s : State) : Type 0 where
 
 abbrev pub TwoReads : Type 0
 TwoReads = (s : State) → stateOk s ≡ true → ReadsAsTaken s
+
+-- "A read of a flag register clears its own flags": whatever flags there were, of those that it leaves its own byte reads 0, and the other register's byte reads as before
+pub record OwnCleared (p : Profile) (flags : ℕ) : Type 0 where
+  pub charger : flagByte p 0x20 (flagsLeft 0x20 flags) ≡ 0
+  pub fault : flagByte p 0x21 (flagsLeft 0x21 flags) ≡ 0
+  pub fault-stands : flagByte p 0x21 (flagsLeft 0x20 flags) ≡ flagByte p 0x21 flags
+  pub charger-stands : flagByte p 0x20 (flagsLeft 0x21 flags) ≡ flagByte p 0x20 flags
+
+abbrev pub ClearsItsOwn : Type 0
+ClearsItsOwn = (p : Profile) (flags : ℕ) → OwnCleared p flags

@@ -8,3 +8,4 @@ pub mod Splits
 pub mod Masks
 pub mod ReadsBack
 pub mod Settled
+pub mod Acts

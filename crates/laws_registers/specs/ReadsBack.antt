@@ -1,4 +1,4 @@
--- What a run that isn't refused leaves, field by field: what was written, and nothing else.
+-- What a run that isn't refused leaves, before a reset or service bit acts and before it settles: field by field what was written, and nothing else.
 use Prim.Native.Nat.{ℕ, _-_, _*_, _^_}
 use mathlib.Core.Path.{_≡_}
 use mathlib.Core.Bool.{Bool, true, false, _&&_}
@@ -9,6 +9,7 @@ use Rattle.base.specs.Told.{accepted}
 use Rattle.log_raw.specs.Raw.{Raw, byteOf}
 use Rattle.state_fields.specs.Held.{fieldOf}
 use Rattle.state_fields.specs.Words.{bitsAt}
+use Rattle.state_parts.specs.With.{withSettings, withRegisters}
 use Rattle.state_parts.specs.declared.state.State.{State}
 use Rattle.state_registers.specs.Writes.{countTaken}
 use Rattle.state_settings.specs.Numbered.{heldOf}
@@ -34,6 +35,8 @@ pub record LeavesAsWritten (s : State) (first : ℕ) (raw : Raw) (t : State) : T
   pub masks : (i from count : ℕ) → fieldAt i .access ≡ Mask from count
       → bitsAt from count (t .settings .masks)
       ≡ pick (isWritten first (raw .count) (fieldAt i)) (pick (eqb (writtenCode (byteOf raw) first (fieldAt i)) 0) 0 (2 ^ count - 1)) (bitsAt from count (s .settings .masks))
+  -- nothing beside settings and registers moves
+  pub others : t ≡ withRegisters (withSettings s (t .settings)) (t .registers)
   -- the count
   pub cells : t .registers .cells ≡ pick (takesCount s first raw) (writtenCode (byteOf raw) first cellPin) (s .registers .cells)
 
