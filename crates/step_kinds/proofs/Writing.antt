@@ -1,9 +1,9 @@
 -- What `write` and `write_run` ask, over plain values.
-use mathlib.Core.Path.{_≡_, refl}
+use mathlib.Core.Path.{_≡_, refl, sym, ap, _∙_}
 use mathlib.Core.Bool.{Bool, true, false}
 use Prim.Native.Nat.{ℕ}
 use Rattle.base.specs.Refusals.{refusalNumber}
-use Rattle.base.specs.Told.{refused}
+use Rattle.base.specs.Told.{Told, refused}
 use Rattle.base.specs.declared.refusal.Refusal.{Refusal}
 use Rattle.base.specs.Pick.{pick}
 use Rattle.log_raw.specs.Raw.{Raw}
@@ -21,7 +21,7 @@ use Rattle.state_runs.specs.declared.registers.Kept.{Kept}
 use Rattle.state_runs.specs.declared.run.RunAnswer.{RunAnswer}
 use Rattle.state_runs.specs.declared.run.RunAnswer.the-variants as run
 use Rattle.step_kinds.specs.Changes.{changed}
-use Rattle.step_kinds.specs.Plain.{writtenOf, servicedOf, actedOf, runFrom}
+use Rattle.step_kinds.specs.Plain.{writtenOf, servicedOf, actedOf, afterRun, runFrom}
 use Rattle.step_kinds.specs.declared.change.Way.the-variants.{Plain}
 
 -- a write that the registers take, or refuse
@@ -39,12 +39,12 @@ not-wrote s address byte answer r ea told = rw (← told, ea)
 pub ran : (s : State) (address : ℕ) (raw : RawBytes) (answer : RunAnswer) (k : Kept) (after : State) → answer ≡ run.Taken k → runTold s answer ≡ writeRunOf s address (rawOf raw)
     → after ≡ actedOf (withKept s k) address (rawOf raw) → changed after Plain ≡ runFrom s address (rawOf raw)
 unfolding runFrom
-ran s address raw answer k after ea told e = rw (← told, ea, e)
+ran s address raw answer k after ea told e = ap (λ (t : State). changed t Plain) e ∙ ap (λ (t : Told State). afterRun t address (rawOf raw)) (sym (ap (runTold s) ea) ∙ told)
 
 pub not-ran : (s : State) (address : ℕ) (raw : RawBytes) (answer : RunAnswer) (r : Refusal) → answer ≡ run.Refused r → runTold s answer ≡ writeRunOf s address (rawOf raw)
     → refused (refusalNumber r) ≡ runFrom s address (rawOf raw)
 unfolding runFrom
-not-ran s address raw answer r ea told = rw (← told, ea)
+not-ran s address raw answer r ea told = ap (λ (t : Told State). afterRun t address (rawOf raw)) (sym (ap (runTold s) ea) ∙ told)
 
 -- what a run's bits do: a reset leaves the watchdog at zero, so that a service after it changes nothing
 pub acts-reset : (s : State) (address : ℕ) (raw : Raw) → resets address raw ≡ true → resetOf s ≡ actedOf s address raw
