@@ -61,4 +61,4 @@ every-row = (refl, (refl, (refl, (refl, (refl, (refl, (refl, (refl, (refl, (refl
 
 pub every-request : EveryRequest
 unfolding requested runText linesText wholeOf endText headedText spellEvent numberAt lineText numbersOf pageOf startWalk stepOf spellItems readNumber decimal walkOf heldOf reportOf firstOf stateOk movedOf readGroups decimalBy recordAt settingNumbers fastCurrent chargeVoltageOf inputLimitOf profileOk settingsOk registersOk cycleOk watchdogOk sampleOk setOf observeOf spell readRecord chargeClampOf shareOf baseOf inPack cutOf mayHold finishOf storeOf writeOf observedOf resetOf groups metBy packClampOf settleOf startState wordsOk rangeOf edgesOf merged pulseOf writtenTo countedOf expiredOf clearedIf timesOf unitsOf startSettings resetRegisters lineOf readItems forcedOf latchesOf bandOf settledOf testsOf fieldsOf ranges seenOf recounted writtenRegisters takenBy gathered regulatedOf startVreg startIchg startVsysmin flagsNumber eventOf faultOf shortOf lowOf packOverOf cycleOf phaseOf permittedOf suspendsOf belowRecharge taperOf endingOf fields reachedOf signedOf belowShare clearsOf endsOf judgedOf restartsOf turnedBy changeOf followedOf writtenOf turnOf profileInRange sampleInRange seenOn resistorsInRange codeOf startWords restoredBy withoutOverrides putIn withWord putAt expiresOf runFrom readFlagsOf actedOf writeRunOf badRun keptRun writtenRun resets serves settingsTaken badRegister registerTaken byteOf hasSpelling allZero readRaw rawAt spellRaw bytesOf wordsIn wordAt flagByte valueBy
-every-request = (refl, (refl, (refl, (refl, (refl, (refl, (refl, (refl, (refl, (refl, (refl, (refl, (refl, (refl, (refl, (refl, (refl, (refl, (refl, tt)))))))))))))))))))
+every-request = (refl, (refl, (refl, (refl, (refl, (refl, (refl, (refl, (refl, (refl, (refl, (refl, (refl, (refl, (refl, (refl, (refl, (refl, (refl, (refl, (refl, tt)))))))))))))))))))))

@@ -30,6 +30,15 @@ typedLog bytes =
     0x01 ∷ 0x02 ∷ 0x05 ∷ 0x04 ∷ 0x00 ∷ 0x00 ∷ 0x94 ∷ 0x23 ∷ 0x90 ∷ 0x1C ∷ 0xA0 ∷ 0x38 ∷ 0xA0 ∷ 0x99 ∷ 0x02 ∷ 0x00
     ∷ 0x05 ∷ 0xE8 ∷ 0x07 ∷ 0xE0 ∷ 0x5D ∷ 0xB0 ∷ 0x3B ∷ 0x00 ∷ 0xD8 ∷ 0xAD ∷ 0x03 ∷ 0x00 ∷ bytes
 
+-- 01's power-on with a watchdog of 1 s, its flags taken, 01's observation at 900 ms, a byte at 0x12, and the observation at 1,899 and 1,900 ms
+abbrev pub servedLog : ℕ → List ℕ
+servedLog byte =
+    0x01 ∷ 0x02 ∷ 0x05 ∷ 0x04 ∷ 0x00 ∷ 0x00 ∷ 0x94 ∷ 0x23 ∷ 0x90 ∷ 0x1C ∷ 0xA0 ∷ 0x38 ∷ 0xA0 ∷ 0x99 ∷ 0x02 ∷ 0x01 ∷ 0x04
+    ∷ 0x05 ∷ 0x84 ∷ 0x07 ∷ 0xE0 ∷ 0x5D ∷ 0xB0 ∷ 0x3B ∷ 0x00 ∷ 0xD8 ∷ 0xAD ∷ 0x03 ∷ 0x00
+    ∷ 0x08 ∷ 0x12 ∷ 0x01 ∷ byte
+    ∷ 0x05 ∷ 0xEB ∷ 0x0E ∷ 0xE0 ∷ 0x5D ∷ 0xB0 ∷ 0x3B ∷ 0x00 ∷ 0xD8 ∷ 0xAD ∷ 0x03 ∷ 0x00
+    ∷ 0x05 ∷ 0xEC ∷ 0x0E ∷ 0xE0 ∷ 0x5D ∷ 0xB0 ∷ 0x3B ∷ 0x00 ∷ 0xD8 ∷ 0xAD ∷ 0x03 ∷ 0x00 ∷ []
+
 unfoldable pub requested : List Row
 requested =
     -- R-1: taper; done, though 7,890 is below 97% of 8,400; still done; back in normal the band alone restarts the cycle
@@ -56,9 +65,13 @@ requested =
     -- R-3: a run of four bytes at 0x04 is VREG 8,200 and IINDPM 2,000, "little-endian"; the read of 0x20 "clears its own flags"
     ∷ row (log (typedLog (0x08 ∷ 0x04 ∷ 0x04 ∷ 0xA0 ∷ 0x19 ∷ 0x40 ∷ 0x06 ∷ 0x0E ∷ 0x20 ∷ [])))
     (bytesOf "1 1 0 0 0 0 3300 1 32\n2 5 0 3 1500 8400 3300 1 97\n3 8 0 3 1500 8200 2000 0 97\n4 14 0 3 1500 8200 2000 0 0\nend 4 0 37\n")
-    -- "Reset and service bits act as kinds 7 and 6 after the run's other bytes": ITERM 120 and a reset bit leave what a reset leaves
+    -- "Reset and service bits act as kinds 7 and 6 after the run's other bytes": IINDPM 2,000 and a reset bit leave what a reset leaves
     ∷ row (log (typedLog (0x08 ∷ 0x06 ∷ 0x0B ∷ 0x40 ∷ 0x06 ∷ 0x00 ∷ 0x00 ∷ 0x00 ∷ 0x00 ∷ 0x00 ∷ 0x00 ∷ 0x06 ∷ 0x06 ∷ 0x80 ∷ [])))
     (bytesOf "1 1 0 0 0 0 3300 1 32\n2 5 0 3 1500 8400 3300 1 97\n3 8 0 3 1500 8400 3300 0 97\nend 3 0 42\n")
+    -- a watchdog of one second, 900 ms, and a service bit: it expires a second after the bit and not a millisecond before
+    ∷ row (log (servedLog 0x84)) (bytesOf "1 1 0 0 0 0 3300 1 32\n2 4 0 0 0 0 3300 0 0\n3 5 0 3 1500 8400 3300 1 65\n4 8 0 3 1500 8400 3300 0 65\n5 5 0 3 1500 8400 3300 0 65\n6 5 0 3 1500 8400 3300 1 97\nend 6 0 57\n")
+    -- without the bit it expires 100 ms after the run
+    ∷ row (log (servedLog 0x80)) (bytesOf "1 1 0 0 0 0 3300 1 32\n2 4 0 0 0 0 3300 0 0\n3 5 0 3 1500 8400 3300 1 65\n4 8 0 3 1500 8400 3300 0 65\n5 5 0 3 1500 8400 3300 1 97\n6 5 0 3 1500 8400 3300 0 97\nend 6 0 57\n")
     -- "15, half of a sixteen-bit register, after 10, then 11; a field value that its setting can't hold is 9, last": 0x25 to 0x27; 0x05; 0x0E to 0x16 with IPRECHG 0 and FSW 0; IPRECHG 0 alone; and
     -- kind 14 at 0x22
     ∷ row (log (typedLog (0x08 ∷ 0x25 ∷ 0x03 ∷ 0x00 ∷ 0x00 ∷ 0x00 ∷ 0x08 ∷ 0x05 ∷ 0x01 ∷ 0x19 ∷ 0x0E ∷ 0x22 ∷ [])))
