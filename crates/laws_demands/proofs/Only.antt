@@ -23,7 +23,7 @@ use Rattle.laws_format.specs.Ours.{ourRead}
 use Rattle.laws_format.specs.Readers.{Reader, Reads}
 use Rattle.laws_pairs.proofs.Comparing.{only-comparer}
 use Rattle.laws_pairs.proofs.Printing.{our-printed}
-use Rattle.laws_format.proofs.Only.{only-reader, only-writer}
+use Rattle.laws_format.proofs.Only.{only-reader, only-writer, only-refuser}
 use Rattle.laws_demands.specs.Product.{LogLines, Product}
 use Rattle.laws_demands.specs.Printed.{readOn, logFrom, linesBy, printedBy, RunText}
 use Rattle.laws_demands.specs.First.{FirstDemand}
@@ -91,6 +91,7 @@ module _ (p : Product) (a : FirstDemand p) (b : SecondDemand p) where
         (subst (λ (w : LogLines). RunText (w .lines) (w .last) (p .runlog bytes)) (one-walk bytes are) (b .runlog bytes are));
     partlogs = λ x y are bes. our-printed x y are bes (p .partlog x y) .0 (b .partlog x y are bes);
     writes = only-writer (p .write) (b .writes);
+    refuses = only-refuser (p .write) (b .writes);
   }
 
 pub only-ours : OnlyOurs

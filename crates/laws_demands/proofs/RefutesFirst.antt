@@ -1,4 +1,4 @@
--- Three wrong products break demand 1.
+-- Four wrong products break demand 1.
 use Prim.Native.Nat.{ℕ, _≤_}
 use mathlib.Core.Path.{_≡_, refl, ap, subst}
 use mathlib.Core.List.{List, [], _∷_}
@@ -8,9 +8,11 @@ use Rattle.base.specs.Writing as answer
 use Rattle.log_record.specs.Records as log
 use Rattle.base.specs.Writing.{written}
 use Rattle.base.specs.Units.{inPack, belowShare}
+use Rattle.state_parts.specs.declared.state.Model.{Model}
 use Rattle.state_parts.specs.declared.state.Model.the-variants.{On}
 use Rattle.state_parts.specs.Edges.{merged, pulseOf}
 use Rattle.log_number.specs.Number.{spell, groups}
+use Rattle.log_event.specs.declared.Event.{Event}
 use Rattle.log_event.specs.declared.Event.the-variants.{Set}
 use Rattle.log_record.specs.Items.{spellItems}
 use Rattle.log_record.specs.Records.{spellEvent}
@@ -50,6 +52,7 @@ use Rattle.laws_demands.specs.First.{Answered, ReadAt, end, WrittenIn, n
 use Rattle.laws_format.specs.Readers.{Reader, Writer}
 use Rattle.laws_demands.specs.Product.{Step}
 use Rattle.laws_demands.specs.Refuted.{FirstRefuted}
+use Rattle.laws_demands.proofs.Typed as typed
 use Rattle.laws_demands.proofs.Days.{paper, held, differ, one-byte}
 use Rattle.laws_demands.specs.Wrong.{forgets, stopsAlways, spills}
 
@@ -76,4 +79,5 @@ first-refuted = record {
   spilt = λ p e d.
       let same = subst (λ (write : Writer). WrittenIn (0 ∷ []) (write (Set 1 1) (0 ∷ []))) e (d .writes (Set 1 1) (0 ∷ [])) in
       differ 2 0 refl (ap (λ l. getD l 0 0) (stays (0 ∷ []) (2 ∷ []) 12 0 same));
+  partly = λ p e d. typed.broken .front (subst (λ (step : Step). (m : Model) (x : Event) → Answered m (step m x)) e (d .steps));
 }

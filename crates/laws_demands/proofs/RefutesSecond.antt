@@ -166,4 +166,5 @@ second-refuted = record {
   oneAtStart = parts-break .read (tellsStart 1) (format-refuted .oneAtStart);
   twoAtStart = parts-break .read (tellsStart 2) (format-refuted .twoAtStart);
   threeAtStart = parts-break .read (tellsStart 3) (format-refuted .threeAtStart);
+  fiveAtStart = parts-break .read (tellsStart 5) (format-refuted .fiveAtStart);
 }

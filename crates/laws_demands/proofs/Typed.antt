@@ -1,7 +1,12 @@
--- Wrong readings of a run of bytes and of a flag register's read break demand 2: a list of events at which each and this product come to different numbers.
+-- Wrong readings of a run of bytes and of a flag register's read break demand 1 or 2: a list of events at which each and this product come to different numbers.
 use Prim.Native.Nat.{ℕ}
 use mathlib.Core.Path.{_≡_, refl, ap}
 use mathlib.Core.List.{[], _∷_}
+use native.Mathlib.Omega.{arith}
+use Rattle.state_parts.specs.declared.state.Model.{Model}
+use Rattle.state_parts.specs.declared.state.Model.the-variants.{On}
+use Rattle.step_turns.specs.Turns.{heldProfile}
+use Rattle.laws_account.proofs.Powering.{poweredOf}
 use Rattle.step_event.specs.Steps.{stepOf, firstOf, movedOf, observeOf, turnedBy, changeOf, followedOf, seenOn}
 use Rattle.state_settings.specs.Numbered.{heldOf, settingNumbers, storeOf}
 use Rattle.state_valid.specs.Holds.{stateOk, profileOk, registersOk, cycleOk, watchdogOk, sampleOk}
@@ -44,10 +49,11 @@ use Rattle.log_event.specs.declared.Event.{Event}
 use Rattle.log_event.specs.declared.Event.the-variants.{WriteRun, ReadFlags}
 use Rattle.step_kinds.specs.Answers.{Outcome}
 use Rattle.laws_third.specs.Demand.{ranBy}
+use Rattle.laws_demands.specs.First.{Answered}
 use Rattle.laws_demands.specs.Second.{Moves}
-use Rattle.laws_demands.specs.Typed.{takesHalf, settlesBetween, clearsBoth}
+use Rattle.laws_demands.specs.Typed.{takesHalf, keepsFront, settlesBetween, clearsBoth}
 use Rattle.laws_demands.proofs.Against.{as-ours}
-use Rattle.laws_demands.proofs.Days.{paper, powered, day, sample, of, differ}
+use Rattle.laws_demands.proofs.Days.{paper, powered, day, sample, held, of, differ}
 
 -- two bytes from an address on
 abbrev typed : ℕ → ℕ → Event
@@ -59,15 +65,23 @@ itermOf = of (λ s. s .settings .iterm)
 abbrev flagsOf : Outcome → ℕ
 flagsOf = of (λ s. s .flags)
 
+abbrev start : Model
+start = On (poweredOf (heldProfile paper))
+
+abbrev iprechgOf : Model → ℕ
+iprechgOf = held (λ s. s .settings .iprechg)
+
 pub record Broken : Type 0 where
+  pub front : ¬ ((m : Model) (e : Event) → Answered m (keepsFront m e))
   pub half : ¬ Moves takesHalf
   pub between : ¬ Moves settlesBetween
   pub both : ¬ Moves clearsBoth
 
--- IPRECHG and ITERM at 0x0E: the second is lost. TH2 code 2 and EN_TS 0 at 0x18, with TS 66,000: cool between the two bytes, and so a flag. 0x21 after a power-on, whose flag is 0x20's.
+-- IPRECHG 200 and ITERM 640 at 0x0E: 9, and the first is taken. IPRECHG and ITERM there: the second is lost. TH2 code 2 and EN_TS 0 at 0x18, with TS 66,000: cool between the two bytes, and so a flag. 0x21 after a power-on, whose flag is 0x20's.
 pub broken : Broken
-unfolding takesHalf settlesBetween clearsBoth ranBy stepOf heldOf firstOf stateOk movedOf settingNumbers chargeVoltageOf profileOk settingsOk registersOk cycleOk watchdogOk sampleOk setOf observeOf baseOf inPack cutOf mayHold finishOf storeOf writeOf observedOf resetOf packClampOf settleOf startState wordsOk rangeOf edgesOf merged pulseOf writtenTo countedOf expiredOf clearedIf timesOf unitsOf startSettings resetRegisters forcedOf latchesOf bandOf settledOf testsOf fieldsOf ranges seenOf recounted writtenRegisters takenBy gathered regulatedOf startVreg startIchg startVsysmin flagsNumber faultOf shortOf lowOf packOverOf cycleOf phaseOf permittedOf suspendsOf belowRecharge taperOf endingOf fields reachedOf belowShare clearsOf endsOf judgedOf restartsOf turnedBy changeOf followedOf writtenOf turnOf profileInRange sampleInRange seenOn startWords restoredBy withoutOverrides putIn withWord putAt expiresOf runFrom readFlagsOf actedOf writeRunOf badRun keptRun writtenRun resets serves settingsTaken badRegister registerTaken byteOf hasSpelling allZero bytesOf flagByte valueBy
+unfolding takesHalf keepsFront settlesBetween clearsBoth ranBy stepOf heldOf firstOf stateOk movedOf settingNumbers chargeVoltageOf profileOk settingsOk registersOk cycleOk watchdogOk sampleOk setOf observeOf baseOf inPack cutOf mayHold finishOf storeOf writeOf observedOf resetOf packClampOf settleOf startState wordsOk rangeOf edgesOf merged pulseOf writtenTo countedOf expiredOf clearedIf timesOf unitsOf startSettings resetRegisters forcedOf latchesOf bandOf settledOf testsOf fieldsOf ranges seenOf recounted writtenRegisters takenBy gathered regulatedOf startVreg startIchg startVsysmin flagsNumber faultOf shortOf lowOf packOverOf cycleOf phaseOf permittedOf suspendsOf belowRecharge taperOf endingOf fields reachedOf belowShare clearsOf endsOf judgedOf restartsOf turnedBy changeOf followedOf writtenOf turnOf profileInRange sampleInRange seenOn startWords restoredBy withoutOverrides putIn withWord putAt expiresOf runFrom readFlagsOf actedOf writeRunOf badRun keptRun writtenRun resets serves settingsTaken badRegister registerTaken byteOf hasSpelling allZero bytesOf flagByte valueBy
 broken = record {
+  front = λ d. differ 200 120 refl (ap iprechgOf (d start (typed 0x0E 0x200A) .refused (λ z. omega arith) .model));
   half = λ d. differ 60 100 refl (ap itermOf (as-ours _ d powered (typed 0x0E 0x050A)));
   between = λ d. differ 225 97 refl (ap flagsOf (as-ours _ d (day paper (sample 1000 7600 0 66000 0 ∷ [])) (typed 0x18 0xD699)));
   both = λ d. differ 0 32 refl (ap flagsOf (as-ours _ d powered (ReadFlags 0x21)));

@@ -1,5 +1,5 @@
--- The converse: whatever product meets demands 1 and 2 is this one. What they leave open is what a log that is no byte string and an event with no spelling come to, which the
--- program's types have none of.
+-- The converse: whatever product meets demands 1 and 2 is this one. What they leave open is what a log that is no byte string comes to, and to the writer an event with a number above
+-- 32 bits, which the program's types have none of.
 use Prim.Native.Nat.{ℕ}
 use mathlib.Core.Path.{_≡_}
 use mathlib.Core.List.{List}
@@ -13,6 +13,7 @@ use Rattle.report_state.specs.Stats.{statOf}
 use Rattle.step_event.specs.Steps.{stepOf}
 use Rattle.step_text.specs.Runs.{runText}
 use Rattle.laws_format.specs.Format.{Spells}
+use Rattle.laws_format.specs.Readers.{SmallNumbers}
 use Rattle.laws_format.specs.Ours.{ourRead, ourWrite}
 use Rattle.laws_pairs.specs.Ours.{ourCompare}
 use Rattle.laws_demands.specs.Product.{Product}
@@ -33,8 +34,9 @@ pub record IsOurs (p : Product) : Type 0 where
   pub walks : (bytes : List ℕ) → Bytes bytes → p .walk bytes ≡ ourWalk bytes
   pub runlogs : (bytes : List ℕ) → Bytes bytes → p .runlog bytes ≡ runText bytes
   pub partlogs : (a b : List ℕ) → Bytes a → Bytes b → p .partlog a b ≡ ourPartlog a b
-  -- on every event that has a spelling, into every buffer
+  -- on every event that has a spelling, and on every event that has none, into every buffer
   pub writes : (e : Event) (spelling : List ℕ) → Spells e spelling → (buffer : List ℕ) → p .write e buffer ≡ ourWrite e buffer
+  pub refuses : (e : Event) → SmallNumbers e → ((spelling : List ℕ) → ¬ Spells e spelling) → (buffer : List ℕ) → p .write e buffer ≡ ourWrite e buffer
 
 abbrev pub OnlyOurs : Type 0
 OnlyOurs = (p : Product) → FirstDemand p → SecondDemand p → IsOurs p

@@ -21,7 +21,7 @@ use Rattle.laws_demands.specs.Operators.{CountedOn}
 use Rattle.laws_demands.specs.EndTest.{neverRestarts}
 use Rattle.laws_demands.specs.BasePoint.{stepByBase}
 use Rattle.laws_demands.specs.Soldered.{byMeasured, withoutEnds, oneHigher, oneLower, widerIlim, faultRefused}
-use Rattle.laws_demands.specs.Typed.{takesHalf, settlesBetween, clearsBoth}
+use Rattle.laws_demands.specs.Typed.{takesHalf, keepsFront, settlesBetween, clearsBoth}
 use Rattle.laws_demands.specs.Slips.{sameWrite, scalesPrecharge, timesAfter, judgesCool, halvesByNew, keepsTimes}
 
 -- demand 1: "a refused event changes neither the model nor a lent buffer", "every byte string gets an answer"
@@ -29,6 +29,8 @@ pub record FirstRefuted : Type 0 where
   pub forgotten : (p : Product) → p .step ≡ forgets → ¬ FirstDemand p
   pub stopped : (p : Product) → p .read ≡ stopsAlways → ¬ FirstDemand p
   pub spilt : (p : Product) → p .write ≡ spills → ¬ FirstDemand p
+  -- 02, R-3: "taken whole or not at all"
+  pub partly : (p : Product) → p .step ≡ keepsFront → ¬ FirstDemand p
 
 -- demand 2, of every product with this step, report, walk, reader or writer
 abbrev pub StepBreaks : Step → Type 0
@@ -86,10 +88,11 @@ pub record SecondRefuted : Type 0 where
   pub firstAlone : ReadBreaks readsFirst
   pub oneForAll : ReadBreaks refusesWithOne
   pub twoAndThree : ReadBreaks swapsTwoAndThree
-  -- before 02, R-4: the record's start, for 1, for 2 or for 3
+  -- before 02, R-4: the record's start, for 1, for 2 or for 3; and for the reader's 5
   pub oneAtStart : ReadBreaks (tellsStart 1)
   pub twoAtStart : ReadBreaks (tellsStart 2)
   pub threeAtStart : ReadBreaks (tellsStart 3)
+  pub fiveAtStart : ReadBreaks (tellsStart 5)
 
 -- demand 3, of a step, whatever is reported of its states
 abbrev pub StepBreaksThird : Step → Type 0

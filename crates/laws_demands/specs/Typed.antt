@@ -1,5 +1,7 @@
 -- 02, R-3: "a run is taken whole or not at all", with one settling; "A read of a flag register clears its own flags". Wrong readings of both, each this product's step but for those kinds.
 use Prim.Native.Nat.{ℕ, _+_}
+use lib.Dec.{eqb}
+use Rattle.base.specs.Pick.{pick}
 use Rattle.log_event.specs.declared.Event.the-variants.{WriteRun}
 use Rattle.log_raw.specs.Raw.{byteOf}
 use Rattle.log_raw.specs.Struct.{rawOf}
@@ -44,13 +46,19 @@ oneByte raw i = record { length = 1; w0 = byteOf (rawOf raw) i; w1 = 0; w2 = 0; 
 unfoldable pub takesHalf : Step
 takesHalf m e = typedBy (λ first raw. stepOf m (WriteRun first (oneByte raw 0))) (λ address. stepOf m e) (stepOf m e) (turnOf e)
 
+-- half a run in the other sense: one that is refused leaves its first byte taken
+unfoldable pub keepsFront : Step
+keepsFront m e =
+    typedBy (λ first raw. pick (eqb (stepOf m e .number) 0) (stepOf m e) (withModel (stepOf m e) (stepOf m (WriteRun first (oneByte raw 0)) .model))) (λ address. stepOf m e) (stepOf m e)
+    (turnOf e)
+
 -- the model settles after each byte
 unfoldable pub settlesBetween : Step
 settlesBetween m e =
     typedBy (λ first raw. stepwise (λ (o : Outcome) (i : ℕ). stepOf (o .model) (WriteRun (first + i) (oneByte raw i))) (raw .length) (withModel (stepOf m e) m))
     (λ address. stepOf m e) (stepOf m e) (turnOf e)
 
--- a read of one flag register clears the other's flags too
+-- a read of one flag register, also of none, clears the other's flags too
 abbrev pub flagless : Model → Model
 flagless Off = Off
 flagless (On s) = On (withFlags s noFlags)

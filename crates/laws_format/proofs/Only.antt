@@ -11,7 +11,7 @@ use Rattle.log_event.specs.declared.Event.{Event}
 use Rattle.log_record.specs.Records.{Met, met, refused, end}
 use Rattle.log_record.proofs.RecordLaws.{some-long}
 use Rattle.laws_format.specs.Readers.{Reader, SpelledAt, Reads}
-use Rattle.laws_format.specs.Ours.{ourRead, ourWrite, OnlyReader, OnlyWriter, AnswerAt, event, unreadable, over, OneAnswerAt}
+use Rattle.laws_format.specs.Ours.{ourRead, ourWrite, OnlyReader, OnlyWriter, OnlyRefuser, AnswerAt, event, unreadable, over, OneAnswerAt}
 use Rattle.laws_format.proofs.Formats.{spells-are}
 use Rattle.laws_format.proofs.Keeping.{our-reads, our-writes}
 
@@ -66,3 +66,6 @@ only-writer write d e spelling sp buffer = by (decLt (length buffer) (length spe
     by : Dec (length buffer < length spelling) → write e buffer ≡ ourWrite e buffer
     by (yes short) = d .no-room e spelling sp buffer short ∙ sym (our-writes .no-room e spelling sp buffer short)
     by (no fit) = d .written e spelling sp buffer (omega arith) ∙ sym (our-writes .written e spelling sp buffer (omega arith))
+
+pub only-refuser : OnlyRefuser
+only-refuser write d e small none buffer = d .no-spelling e small none buffer ∙ sym (our-writes .no-spelling e small none buffer)

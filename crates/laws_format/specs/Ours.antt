@@ -9,7 +9,7 @@ use Rattle.log_event.specs.declared.Event.{Event}
 use Rattle.log_record.specs.Records.{Met, met, refused, end, eventWritten, eventPut, recordAt}
 use Rattle.laws_format.specs.Format.{Spells}
 use Rattle.laws_format.specs.Unreadable.{LogRow}
-use Rattle.laws_format.specs.Readers.{Reader, Writer, SpelledAt, Reads, Writes}
+use Rattle.laws_format.specs.Readers.{Reader, Writer, SpelledAt, Reads, SmallNumbers, Writes}
 
 abbrev pub ourRead : Reader
 ourRead = recordAt kinds
@@ -31,6 +31,10 @@ OnlyReader = (read : Reader) → Reads read → (bytes : List ℕ) → Bytes byt
 -- and writes as this product does: every event that has a spelling, into every buffer
 abbrev pub OnlyWriter : Type 0
 OnlyWriter = (write : Writer) → Writes write → (e : Event) (spelling : List ℕ) → Spells e spelling → (buffer : List ℕ) → write e buffer ≡ ourWrite e buffer
+
+-- every event without one too, of those whose numbers are a program's
+abbrev pub OnlyRefuser : Type 0
+OnlyRefuser = (write : Writer) → Writes write → (e : Event) → SmallNumbers e → ((spelling : List ℕ) → ¬ Spells e spelling) → (buffer : List ℕ) → write e buffer ≡ ourWrite e buffer
 
 -- what the format says of a place of a log: an event's record, a refusal's row, or the end
 pub data AnswerAt (bytes : List ℕ) (at : ℕ) : Met → Type 0 where

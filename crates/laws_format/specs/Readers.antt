@@ -40,6 +40,10 @@ pub record Reads (read : Reader) : Type 0 where
   -- the end, exactly from the log's end on
   pub ends : (bytes : List ℕ) → Bytes bytes → (at : ℕ) → (read bytes at ≡ end) ↔ (length bytes ≤ at)
 
+-- an event whose numbers have 32 bits, as a program's have
+abbrev pub SmallNumbers : Event → Type 0
+SmallNumbers e = (kind : ℕ) (is : List Item) → Listed e kind is → AllSmall (values is)
+
 pub record Writes (write : Writer) : Type 0 where
   -- "written again byte for byte where room allows"; "bytes after it stay"
   pub written : (e : Event) (spelling : List ℕ) → Spells e spelling → (buffer : List ℕ) → length spelling ≤ length buffer
@@ -48,5 +52,5 @@ pub record Writes (write : Writer) : Type 0 where
   pub no-room : (e : Event) (spelling : List ℕ) → Spells e spelling → (buffer : List ℕ) → length buffer < length spelling
       → write e buffer ≡ (writing.refused 12 0, buffer)
   -- 02, R-3: "has no spelling: the writer gives 5", whatever the room, of every event whose numbers are those of a program's
-  pub no-spelling : (e : Event) → ((kind : ℕ) (is : List Item) → Listed e kind is → AllSmall (values is)) → ((spelling : List ℕ) → ¬ Spells e spelling) → (buffer : List ℕ)
+  pub no-spelling : (e : Event) → SmallNumbers e → ((spelling : List ℕ) → ¬ Spells e spelling) → (buffer : List ℕ)
       → write e buffer ≡ (writing.refused 5 0, buffer)
