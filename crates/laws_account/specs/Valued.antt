@@ -56,7 +56,7 @@ recounted p cells number held =
     pick (eqb number 6) (startValue p cells 6)
     (pick (eqb number 1 && not (eqb (p .vchg) 0)) (millivoltsOf (inPack (vchgOf p) cells)) held)
 
--- a pin fault "forces EN_CHG 0", and nothing but a set or a reset makes it 1 again
+-- a pin fault "forces EN_CHG 0", and nothing but a set, a run or a reset makes it 1 again
 abbrev pub forced : Run → ℕ → ℕ → ℕ
 forced r number value = pick (eqb number 9 && pinFault r) 0 value
 

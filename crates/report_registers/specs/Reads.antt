@@ -93,7 +93,7 @@ byteBy p code address =
 unfoldable pub readOf : State → ℕ → ℕ
 readOf s address = byteBy (s .profile) (codeOf s) address
 
--- the flag registers: "PG 0 and 1, IINDPM 2, VINDPM 3, .." by the table's rows
+-- the flag registers, "0x20 and 0x21": those that have a field of flags in the table (`FlagRegisters`)
 abbrev pub flagRegister : Profile → ℕ → Bool
 flagRegister p address = eqb address 0x20 || eqb address 0x21
 
