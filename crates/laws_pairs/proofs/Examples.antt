@@ -32,6 +32,7 @@ pair-rows = record {
   zeroInFirst = first-unreadable 2 2 (Service ∷ []) (0x06 ∷ []) (0x02 ∷ 0x80 ∷ 0x00 ∷ []) (0x02 ∷ []) one-service (paper-bytes .numberByNumber) (omega arith);
   fifthInSecond = second-unreadable 3 5 (Service ∷ []) Reset (0x06 ∷ []) (0x07 ∷ []) [] (0x02 ∷ 0x80 ∷ 0x80 ∷ 0x80 ∷ 0x80 ∷ 0x80 ∷ []) one-service (paper-bytes .reset)
       (stopped 3 2 4 (Set 0 0) [] _ _ [] _ (format.set 0 0) none (of-number 3 4 _ (paper-bytes .fiveHigh)));
+  lengthInFirst = first-unreadable 5 2 (Service ∷ []) (0x06 ∷ []) (0x08 ∷ 0x1B ∷ 0x21 ∷ []) (0x02 ∷ []) one-service (paper-bytes .tooManyBytes) (omega arith);
   different = different (Service ∷ []) Service Reset (0x06 ∷ []) (0x06 ∷ []) [] (0x07 ∷ []) [] one-service (paper-bytes .service) (paper-bytes .reset)
       (λ e. let z : _≡_ {A = ℕ} 0 1 = cc in omega arith);
 }

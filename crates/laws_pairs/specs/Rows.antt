@@ -18,6 +18,8 @@ pub record PairRows : Type 0 where
   -- the offset is one in the log that can't be read: in the first a zero group, though the second ends sooner; in the second the fifth group
   pub zeroInFirst : SideBySide (0x06 ∷ 0x02 ∷ 0x80 ∷ 0x00 ∷ []) (0x06 ∷ 0x02 ∷ []) (refused 2 2 3)
   pub fifthInSecond : SideBySide (0x06 ∷ 0x07 ∷ []) (0x06 ∷ 0x02 ∷ 0x80 ∷ 0x80 ∷ 0x80 ∷ 0x80 ∷ 0x80 ∷ []) (refused 3 2 6)
+  -- 02, R-3: the reader's 5 "counts wherever 01 says 1-4": a run of 33 bytes in the first, at its length
+  pub lengthInFirst : SideBySide (0x06 ∷ 0x08 ∷ 0x1B ∷ 0x21 ∷ []) (0x06 ∷ 0x02 ∷ []) (refused 5 2 3)
   -- "Different records give 14, record number and offset"
   pub different : SideBySide (0x06 ∷ 0x06 ∷ []) (0x06 ∷ 0x07 ∷ []) (refused 14 2 1)
 
