@@ -6,6 +6,7 @@ use mathlib.Core.List.{List, [], _∷_}
 use mathlib.Core.Logic.{⊎-elim}
 use native.Mathlib.Nat.{not-suc-le-zero, eq-or-lt-of-le}
 use native.Mathlib.Omega.{arith}
+use native.Mathlib.Decide.{decLt}
 use lib.Dec.{eqb, leb, ltb}
 use lib.ListN.{length, getD}
 use borrow.Author.Tests.{eqb-true, leb-true, ltb-true, ltb-false, le-leb, lt-ltb, le-ltb, eq-eqb}
@@ -75,3 +76,13 @@ module _ {A X : Type 0} (get : A → X) where
             let old : get (stepwise step k u) ≡ get u = b ∙ ap (λ (t : Bool). pick t (new (address - first) (get u)) (get u)) (outside k here) in
             ap (new k) old ∙ ap (λ (n : ℕ). new n (get u)) (sym place) ∙ ap (λ (t : Bool). pick t (new (address - first) (get u)) (get u)) (sym (at-last k here))
         go false e b = b ∙ ap (λ (t : Bool). pick t (new (address - first) (get u)) (get u)) (sym (elsewhere k (λ same. false≢true (sym e ∙ eq-eqb address (first + k) same))))
+
+  -- a step that gives it whatever was got before, and none behind it that moves it
+  pub up-last : (step : A → ℕ → A) (m : ℕ) (new : X) (k : ℕ) → m < k → ((u : A) → get (step u m) ≡ new) → ((i : ℕ) → m < i → i < k → (u : A) → get (step u i) ≡ get u)
+      → (u : A) → get (stepwise step k u) ≡ new
+  up-last step m new zero l here later u = absurd (not-suc-le-zero l)
+  up-last step m new (suc k) l here later u = go (decLt m k) (λ less. up-last step m new k less here (λ i a b. later i a (omega arith)) u)
+    where
+      go : Dec (m < k) → (m < k → get (stepwise step k u) ≡ new) → get (step (stepwise step k u) k) ≡ new
+      go (yes less) before = later k less (omega arith) (stepwise step k u) ∙ before less
+      go (no same) before = let last : k ≡ m = omega arith in ap (λ (i : ℕ). get (step (stepwise step k u) i)) last ∙ here (stepwise step k u)

@@ -3,6 +3,7 @@ use Prim.Native.Nat.{ℕ, zero, suc, _*_, _≤_, _<_}
 use mathlib.Core.Path.{_≡_, refl, sym, ap, subst, _∙_}
 use mathlib.Core.Bool.{Bool, true, false, not, _||_, false≢true}
 use mathlib.Core.List.{List, [], _∷_}
+use mathlib.Core.Logic.{_⊎_, ⊎-elim}
 use native.Mathlib.Nat.{not-suc-le-zero}
 use native.Mathlib.Omega.{arith}
 use lib.Dec.{eqb}
@@ -36,12 +37,12 @@ held-other t m v n other some most =
     (λ e. rw e refl, (λ e. rw e refl, (λ e. rw e refl, (λ e. rw e refl, (λ e. rw e refl, (λ e. rw e refl, (λ e. rw e refl, (λ e. rw e refl, (λ e. rw e refl, (λ e. rw e refl, (λ e. rw e refl, (λ e. rw e refl, (λ e. rw e refl, (λ e. rw e refl, tt))))))))))))))
     some (omega arith) (ne-eqb m n other)
 
--- a count that is taken moves VREG and VSYSMIN alone
-pub held-recounted : (p : Profile) (cells : ℕ) (t : Settings) (n : ℕ) → (n ≡ 1 → ⊥) → (n ≡ 6 → ⊥) → 1 ≤ n → n ≤ lastSetting → heldOf (recounted p cells t) n ≡ heldOf t n
+-- a count that is taken moves VREG and VSYSMIN alone, and VREG only if VCHG has a code
+pub held-recounted : (p : Profile) (cells : ℕ) (t : Settings) (n : ℕ) → ((n ≡ 1 → ⊥) ⊎ (p .vchg ≡ 0)) → (n ≡ 6 → ⊥) → 1 ≤ n → n ≤ lastSetting → heldOf (recounted p cells t) n ≡ heldOf t n
 unfolding heldOf settingNumbers recounted
 held-recounted p cells t n first sixth some most =
-    span (λ (k : ℕ). (k ≡ 1 → ⊥) → (k ≡ 6 → ⊥) → heldOf (recounted p cells t) k ≡ heldOf t k) 1 lastSetting n
-    (λ a b. absurd (a refl), (λ a b. refl, (λ a b. refl, (λ a b. refl, (λ a b. refl, (λ a b. absurd (b refl), (λ a b. refl, (λ a b. refl, (λ a b. refl, (λ a b. refl, (λ a b. refl, (λ a b. refl, (λ a b. refl, (λ a b. refl, tt))))))))))))))
+    span (λ (k : ℕ). ((k ≡ 1 → ⊥) ⊎ (p .vchg ≡ 0)) → (k ≡ 6 → ⊥) → heldOf (recounted p cells t) k ≡ heldOf t k) 1 lastSetting n
+    (λ a b. ⊎-elim (λ other. absurd (other refl)) (λ fault. rw fault refl) a, (λ a b. refl, (λ a b. refl, (λ a b. refl, (λ a b. refl, (λ a b. absurd (b refl), (λ a b. refl, (λ a b. refl, (λ a b. refl, (λ a b. refl, (λ a b. refl, (λ a b. refl, (λ a b. refl, (λ a b. refl, tt))))))))))))))
     some (omega arith) first sixth
 
 -- no other field of the table is of the same setting

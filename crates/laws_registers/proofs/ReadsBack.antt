@@ -1,12 +1,15 @@
 -- A run that isn't refused leaves what was written, field by field, and nothing else.
-use Prim.Native.Nat.{ℕ, _+_, _-_, _*_, _%_, _^_, _<_}
+use Prim.Native.Nat.{ℕ, _+_, _-_, _*_, _%_, _^_, _≤_, _<_}
 use mathlib.Core.Path.{_≡_, refl, sym, ap, subst, _∙_}
 use mathlib.Core.Bool.{Bool, true, false, _&&_, false≢true}
 use mathlib.Core.Logic.{_⊎_, ⊎-elim}
 use native.Mathlib.Omega.{arith}
-use lib.Dec.{eqb}
-use borrow.Author.Tests.{eqb-true, ne-eqb, eq-eqb, le-leb, lt-ltb}
+use lib.Dec.{eqb, leb, ltb}
+use borrow.Author.Tests.{eqb-true, ne-eqb, eq-eqb, leb-true, ltb-true, le-leb, lt-ltb}
 use Rattle.base.specs.Pick.{pick}
+use Rattle.base.specs.Units.{inPack}
+use Rattle.base.specs.Volts.{millivoltsOf}
+use Rattle.base.proofs.Tests.{and-iff}
 use Rattle.log_raw.specs.Raw.{Raw, byteOf}
 use Rattle.state_fields.specs.Held.{fieldIn}
 use Rattle.state_fields.specs.Words.{bitsAt}
@@ -25,14 +28,16 @@ use Rattle.state_runs.specs.Runs.{badRun, keptRun, keptOf, writtenRun}
 use Rattle.state_runs.specs.declared.registers.Kept.{Kept}
 use Rattle.state_runs.proofs.Keeps.{judged}
 use Rattle.state_runs.proofs.Steps.{none-meets}
-use Rattle.state_settings.specs.Numbered.{heldOf}
-use Rattle.state_table.specs.Rows.{cellPin, digitOf}
+use Rattle.state_settings.specs.Numbered.{settingNumbers, heldOf}
+use Rattle.state_start.specs.Values.{startVsysmin}
+use Rattle.state_parts.specs.Pins.{vchgOf}
+use Rattle.state_table.specs.Rows.{fields, cellPin, digitOf}
 use Rattle.state_table.specs.Packed.{fieldAt}
 use Rattle.state_table.specs.declared.Access.the-variants.{Setting, Mask}
 use Rattle.state_valid.specs.Holds.{stateOk}
 use Rattle.state_valid.proofs.Wholes.{apart}
 use Rattle.laws_registers.specs.ReadsBack.{takesCount, LeavesAsWritten, RunsReadBack}
-use Rattle.laws_registers.proofs.Gets.{up-gets}
+use Rattle.laws_registers.proofs.Gets.{up-gets, up-last}
 use Rattle.laws_registers.proofs.HeldAfter.{held-recounted, held-taken}
 use Rattle.laws_registers.proofs.MasksAfter.{masks-taken}
 use Rattle.laws_registers.proofs.Mates.{alone-at}
@@ -49,6 +54,15 @@ count-there g a value = go (eqb 0x1B a) refl
 both-picked : {A : Type 0} (s t : Bool) (a b : A) → pick (s && t) a b ≡ pick s (pick t a b) b
 both-picked true t a b = refl
 both-picked false t a b = refl
+
+-- what a count that is taken makes of the two
+recounted-sixth : (p : Profile) (cells : ℕ) (t : Settings) → heldOf (recounted p cells t) 6 ≡ millivoltsOf (startVsysmin p cells)
+unfolding heldOf settingNumbers recounted
+recounted-sixth p cells t = refl
+
+recounted-first : (p : Profile) (cells : ℕ) (t : Settings) → (p .vchg ≡ 0 → ⊥) → heldOf (recounted p cells t) 1 ≡ millivoltsOf (inPack (vchgOf p) cells)
+unfolding heldOf settingNumbers recounted
+recounted-first p cells t coded = ap (λ (b : Bool). millivoltsOf (pick b (t .vreg) (inPack (vchgOf p) cells))) (ne-eqb (p .vchg) 0 coded)
 
 module _ (s : State) (ok : stateOk s ≡ true) (first : ℕ) (raw : Raw) (fine : badRun (byteOf raw) first (raw .count) (s .profile) ≡ false) where
   abbrev p : Profile
@@ -99,13 +113,13 @@ module _ (s : State) (ok : stateOk s ≡ true) (first : ℕ) (raw : Raw) (fine :
           ap (λ (k : ℕ). countTaken g 0x1B (value k)) (sym place) ∙ sym (ap (λ (b : Bool). b && countTaken g 0x1B (value (0x1B - first))) there) ∙ none
       go false e = refl
 
-  module _ (i n k : ℕ) (h : i < 147) (e : nth i .access ≡ Setting n k) (spared : (takesCount s first raw ≡ false) ⊎ ((n ≡ 1 → ⊥) × (n ≡ 6 → ⊥))) where
+  module _ (i n k : ℕ) (h : i < 147) (e : nth i .access ≡ Setting n k) (spared : (takesCount s first raw ≡ false) ⊎ (((n ≡ 1 → ⊥) ⊎ (s .profile .vchg ≡ 0)) × (n ≡ 6 → ⊥))) where
     spares : (m : ℕ) → m < raw .count → (t : Settings) → heldOf (pick (countTaken g (first + m) (value m)) (recounted p (digitOf cellPin (value m)) t) t) n ≡ heldOf t n
     spares m l t =
         ⊎-elim (λ none. ap (λ (b : Bool). heldOf (pick b (recounted p (digitOf cellPin (value m)) t) t) n) (none-counted none m l))
         (λ others. go others (countTaken g (first + m) (value m))) spared
       where
-        go : (n ≡ 1 → ⊥) × (n ≡ 6 → ⊥) → (b : Bool) → heldOf (pick b (recounted p (digitOf cellPin (value m)) t) t) n ≡ heldOf t n
+        go : ((n ≡ 1 → ⊥) ⊎ (s .profile .vchg ≡ 0)) × (n ≡ 6 → ⊥) → (b : Bool) → heldOf (pick b (recounted p (digitOf cellPin (value m)) t) t) n ≡ heldOf t n
         go others true = held-recounted p (digitOf cellPin (value m)) t n (others .0) (others .1) (alone-at p i n k h e .some) (alone-at p i n k h e .known)
         go others false = refl
 
@@ -118,6 +132,57 @@ module _ (s : State) (ok : stateOk s ≡ true) (first : ℕ) (raw : Raw) (fine :
           spares m l (settingsTaken p (first + m) (value m) (u .settings))
               ∙ held-taken p (first + m) (value m) i n k h e (none-meets (λ (x : ℕ). badRegister p (first + x) (value x)) (raw .count) fine m l) (u .settings),
         )) (keptOf s) tt .1
+
+  -- where the run takes a count, it is the register at 0x1B that does, and those behind it leave VREG and VSYSMIN
+  module _ (counts : takesCount s first raw ≡ true) where
+    abbrev m : ℕ
+    m = 0x1B - first
+
+    both : (isWritten first (raw .count) cellPin ≡ true) × (countTaken g 0x1B (value m) ≡ true)
+    both = and-iff (isWritten first (raw .count) cellPin) (countTaken g 0x1B (value m)) .0 counts
+
+    there : (first ≤ 0x1B) × (0x1B < first + raw .count)
+    there = let tests = and-iff (leb first 0x1B) (ltb 0x1B (first + raw .count)) .0 (both .0) in (leb-true first 0x1B (tests .0), ltb-true 0x1B (first + raw .count) (tests .1))
+
+    taken-there : (u : Kept) → step u m .settings ≡ recounted p (digitOf cellPin (value m)) (settingsTaken p (first + m) (value m) (u .settings))
+    unfolding registerTaken
+    taken-there u =
+        let here : first + m ≡ 0x1B = omega (arith, there .0) in
+        let count : countTaken g (first + m) (value m) ≡ true = ap (λ (a : ℕ). countTaken g a (value m)) here ∙ both .1 in
+        ap (λ (b : Bool). pick b (recounted p (digitOf cellPin (value m)) (settingsTaken p (first + m) (value m) (u .settings))) (settingsTaken p (first + m) (value m) (u .settings))) count
+
+    behind : (i n k : ℕ) (h : i < 147) (e : nth i .access ≡ Setting n k) → nth i .address < 0x1B → (j : ℕ) → m < j → j < raw .count → (u : Kept) → heldOf (step u j .settings) n ≡ heldOf (u .settings) n
+    unfolding registerTaken badRun
+    behind i n k h e low j later l u =
+        let past : 0x1B < first + j = omega (arith, there .0) in
+        let none : countTaken g (first + j) (value j) ≡ false =
+        count-there g (first + j) (value j) ∙ ap (λ (b : Bool). b && countTaken g 0x1B (value j)) (ne-eqb 0x1B (first + j) (λ q. omega arith)) in
+        ap (λ (b : Bool). heldOf (pick b (recounted p (digitOf cellPin (value j)) (settingsTaken p (first + j) (value j) (u .settings))) (settingsTaken p (first + j) (value j) (u .settings))) n) none
+        ∙ held-taken p (first + j) (value j) i n k h e (none-meets (λ (x : ℕ). badRegister p (first + x) (value x)) (raw .count) fine j l) (u .settings)
+        ∙ ap (λ (b : Bool). pick b (digitOf (nth i) (value j) * k) (heldOf (u .settings) n)) (ne-eqb (nth i .address) (first + j) (λ q. omega (arith, low)))
+
+    -- the count itself
+    cells-are : final .cells ≡ digitOf cellPin (value m)
+    cells-are = cells-after ∙ ap (λ (b : Bool). pick b (writtenCode (byteOf raw) first cellPin) (g .cells)) counts
+
+    inside : m < raw .count
+    inside = omega (arith, there .0, there .1)
+
+    vsysmin-after : heldOf (final .settings) 6 ≡ millivoltsOf (startVsysmin p (final .cells))
+    unfolding keptRun fields
+    vsysmin-after =
+        up-last (λ (u : Kept). heldOf (u .settings) 6) step m (millivoltsOf (startVsysmin p (digitOf cellPin (value m)))) (raw .count) inside
+        (λ u. ap (λ (t : Settings). heldOf t 6) (taken-there u) ∙ recounted-sixth p (digitOf cellPin (value m)) (settingsTaken p (first + m) (value m) (u .settings)))
+        (behind 1 6 20 (omega arith) refl (omega arith)) (keptOf s)
+        ∙ ap (λ (n : ℕ). millivoltsOf (startVsysmin p n)) (sym cells-are)
+
+    vreg-after : (p .vchg ≡ 0 → ⊥) → heldOf (final .settings) 1 ≡ millivoltsOf (inPack (vchgOf p) (final .cells))
+    unfolding keptRun fields
+    vreg-after coded =
+        up-last (λ (u : Kept). heldOf (u .settings) 1) step m (millivoltsOf (inPack (vchgOf p) (digitOf cellPin (value m)))) (raw .count) inside
+        (λ u. ap (λ (t : Settings). heldOf t 1) (taken-there u) ∙ recounted-first p (digitOf cellPin (value m)) (settingsTaken p (first + m) (value m) (u .settings)) coded)
+        (behind 7 1 10 (omega arith) refl (omega arith)) (keptOf s)
+        ∙ ap (λ (n : ℕ). millivoltsOf (inPack (vchgOf p) n)) (sym cells-are)
 
   -- a count that is taken leaves the masks
   masks-stand : (b : Bool) (cells : ℕ) (t : Settings) → pick b (recounted p cells t) t .masks ≡ t .masks
@@ -146,6 +211,8 @@ runs-read-back s first raw t ok e =
       stored = λ i st. stored-after s ok first raw (j .held) (i % 147) (omega arith) st;
       settings = λ i n step q spared. settings-after s ok first raw (j .held) (i % 147) n step (omega arith) q spared;
       masks = λ i from count q. masks-after s ok first raw (j .held) (i % 147) from count (omega arith) q;
+      vsysmin = vsysmin-after s ok first raw (j .held);
+      vreg = vreg-after s ok first raw (j .held);
       others = refl;
       cells = cells-after s ok first raw (j .held);
     })

@@ -6,13 +6,17 @@ use mathlib.Core.Logic.{_⊎_}
 use lib.Dec.{eqb}
 use Rattle.base.specs.Pick.{pick}
 use Rattle.base.specs.Told.{accepted}
+use Rattle.base.specs.Units.{inPack}
+use Rattle.base.specs.Volts.{millivoltsOf}
 use Rattle.log_raw.specs.Raw.{Raw, byteOf}
 use Rattle.state_fields.specs.Held.{fieldOf}
 use Rattle.state_fields.specs.Words.{bitsAt}
+use Rattle.state_parts.specs.Pins.{vchgOf}
 use Rattle.state_parts.specs.With.{withSettings, withRegisters}
 use Rattle.state_parts.specs.declared.state.State.{State}
 use Rattle.state_registers.specs.Writes.{countTaken}
 use Rattle.state_settings.specs.Numbered.{heldOf}
+use Rattle.state_start.specs.Values.{startVsysmin}
 use Rattle.state_table.specs.Rows.{cellPin, isStored}
 use Rattle.state_table.specs.Packed.{fieldAt}
 use Rattle.state_table.specs.declared.Access.the-variants.{Setting, Mask}
@@ -29,12 +33,15 @@ pub record LeavesAsWritten (s : State) (first : ℕ) (raw : Raw) (t : State) : T
   pub stored : (i : ℕ) → isStored (fieldAt i .access) ≡ true
       → fieldOf (fieldAt i) (t .registers) ≡ pick (isWritten first (raw .count) (fieldAt i)) (writtenCode (byteOf raw) first (fieldAt i)) (fieldOf (fieldAt i) (s .registers))
   -- each field that is a setting has its code's value, every other stands; but VREG and VSYSMIN by the CELL_PIN rule, where a count is taken
-  pub settings : (i n step : ℕ) → fieldAt i .access ≡ Setting n step → (takesCount s first raw ≡ false) ⊎ ((n ≡ 1 → ⊥) × (n ≡ 6 → ⊥))
+  pub settings : (i n step : ℕ) → fieldAt i .access ≡ Setting n step → (takesCount s first raw ≡ false) ⊎ (((n ≡ 1 → ⊥) ⊎ (s .profile .vchg ≡ 0)) × (n ≡ 6 → ⊥))
       → heldOf (t .settings) n ≡ pick (isWritten first (raw .count) (fieldAt i)) (writtenCode (byteOf raw) first (fieldAt i) * step) (heldOf (s .settings) n)
   -- "PG_MASK .. a write sets both": the bits of each mask of the run are all its code, those of every other stand
   pub masks : (i from count : ℕ) → fieldAt i .access ≡ Mask from count
       → bitsAt from count (t .settings .masks)
       ≡ pick (isWritten first (raw .count) (fieldAt i)) (pick (eqb (writtenCode (byteOf raw) first (fieldAt i)) 0) 0 (2 ^ count - 1)) (bitsAt from count (s .settings .masks))
+  -- "Then VSYSMIN takes its start value and VREG becomes vchg x count (unchanged if vchg is 0)": unchanged is as the run wrote it, or as it stood
+  pub vsysmin : takesCount s first raw ≡ true → heldOf (t .settings) 6 ≡ millivoltsOf (startVsysmin (s .profile) (t .registers .cells))
+  pub vreg : takesCount s first raw ≡ true → (s .profile .vchg ≡ 0 → ⊥) → heldOf (t .settings) 1 ≡ millivoltsOf (inPack (vchgOf (s .profile)) (t .registers .cells))
   -- nothing beside settings and registers moves
   pub others : t ≡ withRegisters (withSettings s (t .settings)) (t .registers)
   -- the count
