@@ -156,6 +156,7 @@ second-refuted = record {
   matchless = step-breaks _ (broken .matchless);
   half = step-breaks _ (typed.broken .half);
   between = step-breaks _ (typed.broken .between);
+  typed = step-breaks _ (typed.broken .typed);
   both = step-breaks _ (typed.broken .both);
   stray = step-breaks _ (λ d. differ 80000 55000 refl (ap (of (λ s. s .sample .ts)) (d .passes (On stray) refl (PowerOn paper))));
   otherCode = parts-break .read readsSwapped (format-refuted .otherCode);

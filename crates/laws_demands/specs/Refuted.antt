@@ -21,7 +21,7 @@ use Rattle.laws_demands.specs.Operators.{CountedOn}
 use Rattle.laws_demands.specs.EndTest.{neverRestarts}
 use Rattle.laws_demands.specs.BasePoint.{stepByBase}
 use Rattle.laws_demands.specs.Soldered.{byMeasured, withoutEnds, oneHigher, oneLower, widerIlim, faultRefused}
-use Rattle.laws_demands.specs.Typed.{takesHalf, keepsFront, settlesBetween, clearsBoth}
+use Rattle.laws_demands.specs.Typed.{takesHalf, keepsFront, settlesBetween, sameRun, clearsBoth}
 use Rattle.laws_demands.specs.Slips.{sameWrite, scalesPrecharge, timesAfter, judgesCool, halvesByNew, keepsTimes}
 
 -- demand 1: "a refused event changes neither the model nor a lent buffer", "every byte string gets an answer"
@@ -76,9 +76,10 @@ pub record SecondRefuted : Type 0 where
   pub lower : StepBreaks oneLower
   pub ilim : StepBreaks widerIlim
   pub matchless : StepBreaks faultRefused
-  -- 02, R-3: half a run taken; a settling after each byte; the other flag register's flags cleared
+  -- 02, R-3: half a run taken; a settling after each byte; the override of the same run; the other flag register's flags cleared
   pub half : StepBreaks takesHalf
   pub between : StepBreaks settlesBetween
+  pub typed : StepBreaks sameRun
   pub both : StepBreaks clearsBoth
   -- right after every run, and wrong on a model that passes but that no run leaves
   pub stray : StepBreaks dropsStray

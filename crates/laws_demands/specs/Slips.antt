@@ -4,13 +4,10 @@ use mathlib.Core.Bool.{Bool, true, false, _&&_}
 use lib.Dec.{leb, eqb}
 use Rattle.base.specs.Pick.{pick, bitOf}
 use Rattle.base.specs.Stamps.{elapsedOf}
-use Rattle.log_raw.specs.Raw.{byteOf}
-use Rattle.log_raw.specs.Struct.{rawOf}
 use Rattle.state_parts.specs.With.{withRegisters, withCycle, withWords}
 use Rattle.state_parts.specs.declared.profile.Profile.{Profile}
 use Rattle.state_table.specs.Rows.{digitOf, cellOverride}
 use Rattle.state_fields.specs.Held.{withField}
-use Rattle.state_runs.specs.Bytes.{isWritten, writtenCode}
 use Rattle.state_parts.specs.declared.band.Band.{Band}
 use Rattle.state_parts.specs.declared.band.Band.the-variants.{Normal, Cool}
 use Rattle.state_parts.specs.declared.registers.Registers.{Registers}
@@ -38,7 +35,7 @@ use Rattle.step_event.specs.Steps.{stepOf}
 use Rattle.laws_demands.specs.Product.{Step, Reporter}
 use Rattle.laws_demands.specs.Wrong.{withModel}
 
--- "Using a CELL_PIN override from the same write", kind 3 or a run: it is as the written byte has it before the byte is taken
+-- "Using a CELL_PIN override from the same write": it is as the written byte has it before the byte is taken
 abbrev pub withOverride : Bool → Registers → Registers
 withOverride stands g = withWords g (withField cellOverride (bitOf stands) (g .words))
 
@@ -49,8 +46,7 @@ laterWritten TakeFlags s = s
 laterWritten (Observe x) s = s
 laterWritten Service s = s
 laterWritten Reset s = s
-laterWritten (WriteRun first raw) s =
-    pick (isWritten first (raw .length) cellOverride) (withRegisters s (withOverride (eqb (writtenCode (byteOf (rawOf raw)) first cellOverride) 1) (s .registers))) s
+laterWritten (WriteRun first raw) s = s
 laterWritten (ReadFlags address) s = s
 
 abbrev pub asWritten : Turn → State → State

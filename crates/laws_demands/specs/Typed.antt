@@ -1,4 +1,4 @@
--- 02, R-3: "a run is taken whole or not at all", with one settling; "A read of a flag register clears its own flags". Wrong readings of both, each this product's step but for those kinds.
+-- 02, R-3: "a run is taken whole or not at all", with one settling; the override as it stood before it; "A read of a flag register clears its own flags". Wrong readings, each this product's step but for those kinds.
 use Prim.Native.Nat.{ℕ, _+_}
 use lib.Dec.{eqb}
 use Rattle.base.specs.Pick.{pick}
@@ -7,10 +7,11 @@ use Rattle.log_raw.specs.Raw.{byteOf}
 use Rattle.log_raw.specs.Struct.{rawOf}
 use Rattle.log_raw.specs.declared.RawBytes.{RawBytes}
 use Rattle.state_parts.specs.Edges.{noFlags}
-use Rattle.state_parts.specs.With.{withFlags}
+use Rattle.state_parts.specs.With.{withRegisters, withFlags}
 use Rattle.state_parts.specs.declared.state.Model.{Model}
 use Rattle.state_parts.specs.declared.state.Model.the-variants.{Off, On}
-use Rattle.state_runs.specs.Bytes.{stepwise}
+use Rattle.state_table.specs.Rows.{cellOverride}
+use Rattle.state_runs.specs.Bytes.{stepwise, isWritten, writtenCode}
 use Rattle.step_turns.specs.Turns.{turnOf}
 use Rattle.step_turns.specs.declared.later.Later.{Later}
 use Rattle.step_turns.specs.declared.later.Later.the-variants as later
@@ -20,6 +21,7 @@ use Rattle.step_kinds.specs.Answers.{Outcome}
 use Rattle.step_event.specs.Steps.{stepOf}
 use Rattle.laws_demands.specs.Product.{Step}
 use Rattle.laws_demands.specs.Wrong.{withModel}
+use Rattle.laws_demands.specs.Slips.{withOverride}
 
 -- another outcome for a run of bytes, or for a flag register's read
 abbrev pub laterTyped : (ℕ → RawBytes → Outcome) → (ℕ → Outcome) → Outcome → Later → Outcome
@@ -58,10 +60,20 @@ settlesBetween m e =
     typedBy (λ first raw. stepwise (λ (o : Outcome) (i : ℕ). stepOf (o .model) (WriteRun (first + i) (oneByte raw i))) (raw .length) (withModel (stepOf m e) m))
     (λ address. stepOf m e) (stepOf m e) (turnOf e)
 
--- a read of one flag register, also of none, clears the other's flags too
+-- CELL_PIN goes by the override that the same run's byte sets
+abbrev pub asTyped : ℕ → RawBytes → Model → Model
+asTyped first raw Off = Off
+asTyped first raw (On s) =
+    On (pick (isWritten first (raw .length) cellOverride) (withRegisters s (withOverride (eqb (writtenCode (byteOf (rawOf raw)) first cellOverride) 1) (s .registers))) s)
+
+unfoldable pub sameRun : Step
+sameRun m e = typedBy (λ first raw. stepOf (asTyped first raw m) e) (λ address. stepOf m e) (stepOf m e) (turnOf e)
+
+-- a read of one flag register clears the other's flags too
 abbrev pub flagless : Model → Model
 flagless Off = Off
 flagless (On s) = On (withFlags s noFlags)
 
 unfoldable pub clearsBoth : Step
-clearsBoth m e = typedBy (λ first raw. stepOf m e) (λ address. withModel (stepOf m e) (flagless (stepOf m e .model))) (stepOf m e) (turnOf e)
+clearsBoth m e =
+    typedBy (λ first raw. stepOf m e) (λ address. pick (eqb (stepOf m e .number) 0) (withModel (stepOf m e) (flagless (stepOf m e .model))) (stepOf m e)) (stepOf m e) (turnOf e)

@@ -66,10 +66,10 @@ module _ (p : Profile) (m n : ℕ) where
 pub clears-its-own : ClearsItsOwn
 clears-its-own p n =
     record {
-      charger = same-charger p (n / 256 * 256) 0 (omega arith) ∙ charger-is p 0;
-      fault = same-fault p (n % 256) 0 (omega arith) ∙ fault-is p 0;
-      fault-stands = same-fault p (n / 256 * 256) n (omega arith);
-      charger-stands = same-charger p (n % 256) n (omega arith);
+      first-cleared = same-charger p (n / 256 * 256) 0 (omega arith) ∙ charger-is p 0;
+      second-cleared = same-fault p (n % 256) 0 (omega arith) ∙ fault-is p 0;
+      second-stands = same-fault p (n / 256 * 256) n (omega arith);
+      first-stands = same-charger p (n % 256) n (omega arith);
     }
 
 module _ (s : State) (ok : stateOk s ≡ true) where
@@ -126,6 +126,6 @@ two-reads s ok =
       second-pulse = ap (λ (o : Outcome). o .pulse) (second-is s ok);
       first-byte = ap (λ (o : Outcome). o .handed) (first-is s ok) ∙ ap (λ (p : Profile). flagByte p 0x20 (all s ok)) (same-profile s ok)
           ∙ sym (ap (λ (o : Outcome). flagByte (s .profile) 0x20 (o .handed)) (taken-is s ok));
-      second-byte = ap (λ (o : Outcome). o .handed) (second-is s ok) ∙ clears-its-own (after s ok .profile) (all s ok) .fault-stands ∙ ap (λ (p : Profile). flagByte p 0x21 (all s ok)) (same-profile s ok)
+      second-byte = ap (λ (o : Outcome). o .handed) (second-is s ok) ∙ clears-its-own (after s ok .profile) (all s ok) .second-stands ∙ ap (λ (p : Profile). flagByte p 0x21 (all s ok)) (same-profile s ok)
           ∙ sym (ap (λ (o : Outcome). flagByte (s .profile) 0x21 (o .handed)) (taken-is s ok));
     }

@@ -38,10 +38,10 @@ TwoReads = (s : State) → stateOk s ≡ true → ReadsAsTaken s
 
 -- "A read of a flag register clears its own flags": whatever flags there were, of those that it leaves its own byte reads 0, and the other register's byte reads as before
 pub record OwnCleared (p : Profile) (flags : ℕ) : Type 0 where
-  pub charger : flagByte p 0x20 (flagsLeft 0x20 flags) ≡ 0
-  pub fault : flagByte p 0x21 (flagsLeft 0x21 flags) ≡ 0
-  pub fault-stands : flagByte p 0x21 (flagsLeft 0x20 flags) ≡ flagByte p 0x21 flags
-  pub charger-stands : flagByte p 0x20 (flagsLeft 0x21 flags) ≡ flagByte p 0x20 flags
+  pub first-cleared : flagByte p 0x20 (flagsLeft 0x20 flags) ≡ 0
+  pub second-cleared : flagByte p 0x21 (flagsLeft 0x21 flags) ≡ 0
+  pub second-stands : flagByte p 0x21 (flagsLeft 0x20 flags) ≡ flagByte p 0x21 flags
+  pub first-stands : flagByte p 0x20 (flagsLeft 0x21 flags) ≡ flagByte p 0x20 flags
 
 abbrev pub ClearsItsOwn : Type 0
 ClearsItsOwn = (p : Profile) (flags : ℕ) → OwnCleared p flags
