@@ -1,6 +1,6 @@
 -- The paper's own bytes, by the format.
 use Prim.Native.Nat.{ℕ, suc, _+_}
-use mathlib.Core.Path.{refl}
+use mathlib.Core.Path.{_≡_, refl}
 use mathlib.Core.List.{List, [], _∷_}
 use mathlib.Core.Logic.{inl, inr}
 use native.Mathlib.Omega.{arith}
@@ -10,15 +10,15 @@ use Rattle.c_words.specs.Words.{bytesOf}
 use Rattle.log_raw.specs.Raw.{spellRaw, hasSpelling, allZero}
 use Rattle.log_raw.specs.Struct.{rawOf}
 use Rattle.log_raw.specs.declared.RawBytes.{RawBytes}
-use Rattle.log_event.specs.Items.{num, raw}
+use Rattle.log_event.specs.Items.{Item, num, raw, values}
 use Rattle.log_event.specs.declared.Event.the-variants.{PowerOn, Set, Write, TakeFlags, Observe, Service, Reset, WriteRun, PowerOnResistors, ReadFlags}
 use Rattle.log_record.specs.Items.{spellItems}
 use Rattle.log_record.specs.Records.{spellEvent}
-use Rattle.laws_format.specs.Format.{last, none, one, below-zero}
+use Rattle.laws_format.specs.Format.{Listed, Spells, AllSmall, last, none, one, below-zero}
 use Rattle.laws_format.specs.Format as format
 use Rattle.laws_format.specs.Unreadable.{cut-off, five-high, too-large, zero-last, NoRaw, no-length, other-length, cut-bytes, of-number, of-raw, NoRecord, no-kind, stopped}
 use Rattle.laws_format.specs.Rows.{PaperBytes}
-use Rattle.laws_format.proofs.Formats.{grouped, spelled}
+use Rattle.laws_format.proofs.Formats.{grouped, spelled, one-spelling}
 use Rattle.laws_format.proofs.KindsListed.{kinds-listed}
 
 -- what stands behind a run's address
@@ -28,6 +28,15 @@ at-length n place left bad = stopped n 8 place (WriteRun 0x1B none-held) (num 0x
   where
     none-held : RawBytes
     none-held = record { length = 0; w0 = 0; w1 = 0; w2 = 0; w3 = 0; w4 = 0; w5 = 0; w6 = 0; w7 = 0 }
+
+-- a run of no bytes: its numbers are small, and nothing holds it
+small-run : (kind : ℕ) (is : List Item) (run : RawBytes) → AllSmall (values (num 0x1B ∷ raw (rawOf run) ∷ [])) → Listed (WriteRun 0x1B run) kind is → AllSmall (values is)
+small-run kind is run small (format.write-run a r) = small
+
+no-bytes : (run : RawBytes) → run .length ≡ 0 → (spelling : List ℕ) → ¬ Spells (WriteRun 0x1B run) spelling
+no-bytes run e spelling s =
+    let held = one-spelling .some (WriteRun 0x1B run) .1 (spelling, s) 8 (num 0x1B ∷ raw (rawOf run) ∷ []) (format.write-run 0x1B run) .1 .0 .1 in
+    omega (arith, held .long, held .some, e)
 
 pub paper-bytes : PaperBytes
 unfolding spellEvent spellItems spellRaw bytesOf hasSpelling allZero spell groups
@@ -57,4 +66,5 @@ paper-bytes = record {
   tooManyBytes = at-length 5 0 _ (other-length 33 (0x21 ∷ []) [] (omega arith) (last 33 (omega arith)) (inr (omega arith)));
   zeroInLength = at-length 2 1 _ (no-length 2 1 _ (zero-last (0xA1 ∷ []) [] (search needs) (omega arith) (omega arith)));
   cutBytes = at-length 1 2 _ (cut-bytes 2 (0x02 ∷ []) (0x42 ∷ []) (omega arith) (last 2 (omega arith)) (omega arith) (omega arith) (omega arith));
+  unspelled = (λ kind is l. small-run kind is _ (search needs) l, no-bytes _ refl);
 }

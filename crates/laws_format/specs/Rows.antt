@@ -1,12 +1,13 @@
 -- The paper's own bytes: what its examples spell, and what can't be read.
 use Prim.Native.Nat.{ℕ, _<_}
 use mathlib.Core.Path.{_≡_}
-use mathlib.Core.List.{[], _∷_}
+use mathlib.Core.List.{List, [], _∷_}
 use mathlib.Core.Logic.{_↔_, _⊎_}
 use lib.IntN.{pos, negsuc}
 use Rattle.log_event.specs.declared.Event.the-variants.{PowerOn, Set, Write, TakeFlags, Observe, Service, Reset, WriteRun, PowerOnResistors, ReadFlags}
 use Rattle.laws_format.specs.Format.{Groups, Ibat, NoKind, Spells}
 use Rattle.laws_format.specs.Unreadable.{NoNumber, NoRecord}
+use Rattle.laws_format.specs.Readers.{SmallNumbers}
 
 pub record PaperBytes : Type 0 where
   -- "01 02 05 04 00 00 94 23 90 1C A0 38 A0 99 02 00 05 E8 07 E0 5D B0 3B 00 D8 AD 03 00": a power-on and an observation
@@ -53,3 +54,5 @@ pub record PaperBytes : Type 0 where
   pub tooManyBytes : NoRecord 5 (0x08 ∷ 0x1B ∷ 0x21 ∷ []) 2
   pub zeroInLength : NoRecord 2 (0x08 ∷ 0x1B ∷ 0xA1 ∷ 0x00 ∷ []) 3
   pub cutBytes : NoRecord 1 (0x08 ∷ 0x1B ∷ 0x02 ∷ 0x42 ∷ []) 4
+  -- and so a run of no bytes is an event of a program's that has no spelling: the writer gives 5
+  pub unspelled : let e = WriteRun 0x1B (record { length = 0; w0 = 0; w1 = 0; w2 = 0; w3 = 0; w4 = 0; w5 = 0; w6 = 0; w7 = 0 }) in SmallNumbers e × ((spelling : List ℕ) → ¬ Spells e spelling)
