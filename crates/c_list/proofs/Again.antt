@@ -8,7 +8,7 @@ use Rattle.base.specs.Pick.{bitOf}
 use Rattle.state_parts.specs.Edges.{allFlags}
 use Rattle.state_parts.specs.Numbers.{phaseNumber, bandNumber}
 use Rattle.state_parts.specs.declared.band.Band.{Band}
-use Rattle.state_parts.specs.declared.band.Band.the-variants.{Normal, Cold, Hot, Cool, Warm}
+use Rattle.state_parts.specs.declared.band.Band.the-variants.{Normal, Cold, Hot, Cool, Warm, Mixed}
 use Rattle.state_parts.specs.declared.phase.Phase.{Phase}
 use Rattle.state_parts.specs.declared.phase.Phase.the-variants.{Idle, Trickle, Precharge, Fast, Taper, Done, Suspended, Fault}
 use Rattle.state_settings.specs.Numbered.{settingNumbers}
@@ -41,6 +41,7 @@ band-back Cold = refl
 band-back Hot = refl
 band-back Cool = refl
 band-back Warm = refl
+band-back Mixed = refl
 
 halves-back : (n : ℕ) → n % 0x100000000 + n / 0x100000000 * 0x100000000 ≡ n
 halves-back n = omega arith

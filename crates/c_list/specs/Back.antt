@@ -9,7 +9,7 @@ use Rattle.base.specs.Volts.{packOf}
 use Rattle.state_parts.specs.Edges.{allFlags}
 use Rattle.state_parts.specs.Numbers.{phaseNumber, bandNumber}
 use Rattle.state_parts.specs.declared.band.Band.{Band}
-use Rattle.state_parts.specs.declared.band.Band.the-variants.{Normal, Cold, Hot, Cool, Warm}
+use Rattle.state_parts.specs.declared.band.Band.the-variants.{Normal, Cold, Hot, Cool, Warm, Mixed}
 use Rattle.state_parts.specs.declared.phase.Phase.{Phase}
 use Rattle.state_parts.specs.declared.phase.Phase.the-variants.{Idle, Trickle, Precharge, Fast, Taper, Done, Suspended, Fault}
 use Rattle.state_parts.specs.declared.profile.Profile.{Profile}
@@ -81,7 +81,7 @@ watchdogFrom all at = record { count = number all at 0 }
 abbrev pub sampleFrom : List ℕ → ℕ → Sample
 sampleFrom all at =
     let n = number all at in
-    record { stamp = n 0; input = n 1; pack = n 2; ibat = signedOf (n 3); ts = n 4; bits = n 5 }
+    record { stamp = n 0; input = n 1; pack = n 2; ibat = signedOf (n 3); ts = n 4; secondts = n 5; bits = n 6 }
 
 -- the first of some that has a number; else the other
 abbrev pub whose : {A : Type 0} → (A → ℕ) → ℕ → List A → A → A
@@ -92,7 +92,7 @@ abbrev pub phaseFrom : ℕ → Phase
 phaseFrom n = whose phaseNumber n (Idle ∷ Trickle ∷ Precharge ∷ Fast ∷ Taper ∷ Done ∷ Suspended ∷ []) Fault
 
 abbrev pub bandFrom : ℕ → Band
-bandFrom n = whose bandNumber n (Normal ∷ Cold ∷ Hot ∷ Cool ∷ []) Warm
+bandFrom n = whose bandNumber n (Normal ∷ Cold ∷ Hot ∷ Cool ∷ Warm ∷ []) Mixed
 
 -- twelve flags at most
 abbrev pub flagsFrom : ℕ → ℕ

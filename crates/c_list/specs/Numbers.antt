@@ -50,11 +50,11 @@ cycleNumbers c = c .trickle ∷ c .precharge ∷ c .fast ∷ bitOf (c .done) ∷
 abbrev pub watchdogNumbers : Watchdog → List ℕ
 watchdogNumbers w = w .count ∷ []
 
--- "the last observation's six numbers, in the log's order; its stamp is the last stamp"
+-- "the last observation's seven numbers, in kind 10's order; its stamp is the last stamp"
 abbrev pub sampleNumbers : Sample → List ℕ
-sampleNumbers x = x .stamp ∷ x .input ∷ x .pack ∷ loggedOf (x .ibat) ∷ x .ts ∷ x .bits ∷ []
+sampleNumbers x = x .stamp ∷ x .input ∷ x .pack ∷ loggedOf (x .ibat) ∷ x .ts ∷ x .secondts ∷ x .bits ∷ []
 
--- "0 to 7"; "0 normal, 1 cold, 2 hot, 3 cool, 4 warm"; "the held flags, bits 0 to 11"
+-- "0 to 7"; "0 normal, 1 cold, 2 hot, 3 cool, 4 warm, 7 mixed"; "the held flags, bits 0 to 11"
 abbrev pub judgedNumbers : State → List ℕ
 judgedNumbers s = phaseNumber (s .phase) ∷ bandNumber (s .band) ∷ s .flags ∷ []
 

@@ -20,7 +20,7 @@ abbrev watchdogCount : ℕ
 watchdogCount = 1
 
 abbrev sampleCount : ℕ
-sampleCount = 6
+sampleCount = 7
 
 abbrev phaseCount : ℕ
 phaseCount = 1

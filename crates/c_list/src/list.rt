@@ -137,7 +137,8 @@ fn with_sample(before: Numbers, x: Sample) -> Numbers
     all[SAMPLE + 2] = x.pack;
     all[SAMPLE + 3] = ibat::logged(x.ibat);
     all[SAMPLE + 4] = x.ts;
-    all[SAMPLE + 5] = x.bits;
+    all[SAMPLE + 5] = x.secondts;
+    all[SAMPLE + 6] = x.bits;
     all
 }
 

@@ -123,7 +123,8 @@ fn sample(all: Numbers) -> Sample
         pack: all[SAMPLE + 2],
         ibat: current,
         ts: all[SAMPLE + 4],
-        bits: all[SAMPLE + 5],
+        secondts: all[SAMPLE + 5],
+        bits: all[SAMPLE + 6],
     }
 }
 
@@ -152,7 +153,8 @@ fn band(n: u32) -> Band
         1 => Band::Cold,
         2 => Band::Hot,
         3 => Band::Cool,
-        _ => Band::Warm,
+        4 => Band::Warm,
+        _ => Band::Mixed,
     }
 }
 

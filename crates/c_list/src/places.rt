@@ -11,7 +11,7 @@ pub(crate) const WATCHDOG: usize = CYCLE + 4;
 
 pub(crate) const SAMPLE: usize = WATCHDOG + 1;
 
-pub(crate) const PHASE: usize = SAMPLE + 6;
+pub(crate) const PHASE: usize = SAMPLE + 7;
 
 pub(crate) const BAND: usize = PHASE + 1;
 

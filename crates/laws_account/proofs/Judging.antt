@@ -10,11 +10,14 @@ use Rattle.base.specs.Volts.{packOf}
 use Rattle.state_parts.specs.Pins.{vchgOf}
 use Rattle.state_parts.specs.Numbers.{phaseNumber}
 use Rattle.state_parts.specs.declared.band.Band.{Band}
-use Rattle.state_parts.specs.declared.band.Band.the-variants.{Normal, Cold, Cool, Warm, Hot}
+use Rattle.state_parts.specs.declared.band.Band.the-variants.{Normal, Cold, Cool, Warm, Hot, Mixed}
+use Rattle.state_parts.specs.declared.band.TsBand.{TsBand}
+use Rattle.state_parts.specs.declared.band.TsBand.the-variants as ts
 use Rattle.state_parts.specs.declared.phase.Phase.{Phase}
 use Rattle.state_parts.specs.declared.phase.Phase.the-variants.{Idle, Trickle, Precharge, Fast, Taper, Done, Suspended, Fault}
 use Rattle.state_parts.specs.declared.state.State.{State}
 use Rattle.settle_bands.specs.Thresholds.{th1At, th2At, th3At, th5At, firstBand, bandOf}
+use Rattle.settle_bands.specs.Joined.{either, joinedOf, packBandOf}
 use Rattle.settle_bands.specs.Effect as effect
 use Rattle.settle_bands.specs.Effect.{suspendsOf}
 use Rattle.state_fields.specs.Held.{fieldOf}
@@ -35,7 +38,7 @@ use Rattle.laws_account.specs.History.{Run, powered, _▸_, since}
 use Rattle.step_turns.specs.declared.later.Later.{Later}
 use Rattle.laws_account.specs.Held.{profileOf, sampleOf, wasObserved, wasReset, cellsOf}
 use Rattle.laws_account.specs.Valued.{pinFault, givenBy, settingOf}
-use Rattle.laws_account.specs.Judged.{vbat, packClamp, baseAt, inputOk, inputOver, inputGood, cellPoint, short, low, lowEnds, packOver, bandAt, suspendedIn, suspended, chargeVoltage, permitted, tapering, rechargeDue, ending}
+use Rattle.laws_account.specs.Judged.{vbat, packClamp, baseAt, inputOk, inputOver, inputGood, cellPoint, short, low, lowEnds, packOver, Thermistor, firstTs, secondTs, tsOf, tsBandAt, joinTable, bandAt, suspendedIn, suspended, chargeVoltage, permitted, tapering, rechargeDue, ending}
 use Rattle.laws_account.specs.Cycles.{isDone, wasDone, limitFound, fault, phaseAt}
 use Rattle.laws_account.specs.States.{settingsAt, registersAt, latchesAt, watchdogAt}
 use Rattle.laws_account.proofs.Choices.{held-since, forced-since, barred-since}
@@ -61,6 +64,7 @@ suspends-in Cold m = refl
 suspends-in Cool m = ap (λ n. eqb n 0) (isetc m)
 suspends-in Warm m = ap (λ n. eqb n 0) (vset m)
 suspends-in Hot m = refl
+suspends-in Mixed m = refl
 
 pub base-is : (m : Run) → baseOf (profileOf m) (settingsAt m) (registersAt m) ≡ baseAt m
 unfolding baseOf packClampOf baseAt packClamp settingsAt registersAt
@@ -85,12 +89,45 @@ not-early : (r : Run) (w o : Bool) (t : Bool) → eqb (phaseNumber (phaseAt r)) 
 not-early r w o true h = rw (four-not-done r (eqb-true (phaseNumber (phaseAt r)) 4 h), and-false w)
 not-early r w o false h = rw (and-false o, and-false (w && isDone phaseAt r))
 
-pub judged-band : (m : Run) → bandOf (profileOf m) (registersAt m) (sampleOf m .ts) ≡ bandAt m
-unfolding bandOf bandAt
-judged-band m =
+judged-ts : (k : Thermistor) (m : Run) → bandOf (profileOf m) (registersAt m) (tsOf k (sampleOf m)) ≡ tsBandAt k m
+unfolding bandOf tsBandAt
+judged-ts k m =
     let p = profileOf m in
-    let ts = sampleOf m .ts in
+    let ts = tsOf k (sampleOf m) in
     λ i. firstBand (eqb (en-ts m i) 0) (leb (th1At p (th1 m i)) ts) (leb ts (th5At p (th5 m i))) (eqb (en-jeita m i) 1 && leb (th2At p (th2 m i)) ts) (eqb (en-jeita m i) 1 && leb ts (th3At p (th3 m i)))
+
+-- the order of 02, R-7 gives the table
+pub joined-table : (a b : TsBand) → joinedOf a b ≡ joinTable a b
+unfolding joinedOf either
+joined-table ts.Normal ts.Normal = refl
+joined-table ts.Normal ts.Cold = refl
+joined-table ts.Normal ts.Hot = refl
+joined-table ts.Normal ts.Cool = refl
+joined-table ts.Normal ts.Warm = refl
+joined-table ts.Cold ts.Normal = refl
+joined-table ts.Cold ts.Cold = refl
+joined-table ts.Cold ts.Hot = refl
+joined-table ts.Cold ts.Cool = refl
+joined-table ts.Cold ts.Warm = refl
+joined-table ts.Hot ts.Normal = refl
+joined-table ts.Hot ts.Cold = refl
+joined-table ts.Hot ts.Hot = refl
+joined-table ts.Hot ts.Cool = refl
+joined-table ts.Hot ts.Warm = refl
+joined-table ts.Cool ts.Normal = refl
+joined-table ts.Cool ts.Cold = refl
+joined-table ts.Cool ts.Hot = refl
+joined-table ts.Cool ts.Cool = refl
+joined-table ts.Cool ts.Warm = refl
+joined-table ts.Warm ts.Normal = refl
+joined-table ts.Warm ts.Cold = refl
+joined-table ts.Warm ts.Hot = refl
+joined-table ts.Warm ts.Cool = refl
+joined-table ts.Warm ts.Warm = refl
+
+pub judged-band : (m : Run) → packBandOf (profileOf m) (registersAt m) (sampleOf m) ≡ bandAt m
+unfolding packBandOf bandAt
+judged-band m = (λ i. joinedOf (judged-ts firstTs m i) (judged-ts secondTs m i)) ∙ joined-table (tsBandAt firstTs m) (tsBandAt secondTs m)
 
 module _ (r : Run) (e : Later) where
   settings-are : storedOf (faultOf (profileOf (r ▸ e)) (registersAt (r ▸ e))) (givenAt r e) ≡ settingsAt (r ▸ e)
@@ -134,8 +171,8 @@ module _ (r : Run) (e : Later) where
     packover = barred-since (pinFault m) (not (belowShare (vbat m) (baseAt m) 1040)) (not (belowShare (vbat m) (baseAt m) 1020)) (packOver r) i;
   }
 
-  pub band-is : bandOf (profileOf r) (registersAt (r ▸ e)) (sampleOf (r ▸ e) .ts) ≡ bandAt (r ▸ e)
-  unfolding bandOf bandAt profileOf
+  pub band-is : packBandOf (profileOf r) (registersAt (r ▸ e)) (sampleOf (r ▸ e)) ≡ bandAt (r ▸ e)
+  unfolding profileOf
   band-is = judged-band m
 
   -- the tests after the event, as the account has them

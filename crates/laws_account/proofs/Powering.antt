@@ -11,7 +11,7 @@ use Rattle.state_parts.specs.declared.profile.Profile.{Profile}
 use Rattle.state_parts.specs.declared.state.State.{State}
 use Rattle.state_start.specs.Values.{startSettings, startRegisters, startLatches, startCycle, startWatchdog, startSample, startState}
 use Rattle.state_valid.specs.Holds.{profileOk}
-use Rattle.settle_bands.specs.Thresholds.{bandOf}
+use Rattle.settle_bands.specs.Joined.{packBandOf}
 use Rattle.state_fields.specs.Held.{startWords}
 use Rattle.settle_levels.specs.Clamps.{faultOf}
 use Rattle.settle_levels.specs.Comparators.{inputOkOf, inputOverOf, shortOf, lowOf, packOverOf, latchesOf}
@@ -158,10 +158,10 @@ module _ (p : Profile) where
     abbrev settledFrom : State → State
     settledFrom f =
         let k = latchesOf (f .profile) (f .settings) (f .registers) (f .sample) (f .latches) in
-        let b = bandOf (f .profile) (f .registers) (f .sample .ts) in
+        let b = packBandOf (f .profile) (f .registers) (f .sample) in
         settledOf f k b (testsOf f k b false)
 
-    band-start : bandOf p (registersAt on) 55000 ≡ bandAt on
+    band-start : packBandOf p (registersAt on) (startSample p) ≡ bandAt on
     unfolding profileOf sampleOf
     band-start = judged-band on
 

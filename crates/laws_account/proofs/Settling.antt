@@ -7,7 +7,7 @@ use Rattle.base.specs.Pick.{pick}
 use Rattle.state_parts.specs.Numbers.{phaseNumber}
 use Rattle.state_parts.specs.declared.profile.Profile.{Profile}
 use Rattle.state_parts.specs.declared.state.State.{State}
-use Rattle.settle_bands.specs.Thresholds.{bandOf}
+use Rattle.settle_bands.specs.Joined.{packBandOf}
 use Rattle.settle_levels.specs.Comparators.{latchesOf}
 use Rattle.settle_phases.specs.Cycles.{cycleOf}
 use Rattle.settle_phases.specs.Order.{clearsOf, endsOf, phaseOf}
@@ -96,7 +96,7 @@ module _ (r : Run) (e : Later) where
   abbrev settledFrom : State → State
   settledFrom f =
       let k = latchesOf (f .profile) (f .settings) (f .registers) (f .sample) (f .latches) in
-      let b = bandOf (f .profile) (f .registers) (f .sample .ts) in
+      let b = packBandOf (f .profile) (f .registers) (f .sample) in
       settledOf f k b (testsOf f k b (wasObserved (r ▸ e)))
 
   pub settle-is : settleOf (found r e) (wasObserved (r ▸ e)) ≡ flaggedWith (r ▸ e) (flagsAt phaseAt r)

@@ -23,7 +23,7 @@ profileOf (r ▸ e) = profileOf r
 -- "3. The new sample stands." "Other accepted events settle on the held sample; before the first observation after a power-on it is TS 55,000 and zeros."
 -- "the last stamp" is then the power-on's
 unfoldable pub sampleOf : Run → Sample
-sampleOf (powered p) = record { stamp = p .stamp; input = 0; pack = 0; ibat = pos 0; ts = 55000; bits = 0 }
+sampleOf (powered p) = record { stamp = p .stamp; input = 0; pack = 0; ibat = pos 0; ts = 55000; secondts = 55000; bits = 0 }
 sampleOf (r ▸ Set number value) = sampleOf r
 sampleOf (r ▸ Write address byte) = sampleOf r
 sampleOf (r ▸ TakeFlags) = sampleOf r

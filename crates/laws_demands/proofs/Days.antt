@@ -8,7 +8,7 @@ use lib.IntN.{pos}
 use lib.Dec.{eqb}
 use borrow.Author.Tests.{eq-eqb}
 use Rattle.log_event.specs.declared.Event.{Event}
-use Rattle.log_event.specs.declared.Event.the-variants.{PowerOn, Observe}
+use Rattle.log_event.specs.declared.Event.the-variants.{PowerOn, Observe, ObserveTwo}
 use Rattle.log_event.specs.declared.spelled.SpelledProfile.{SpelledProfile}
 use Rattle.log_event.specs.declared.spelled.SpelledSample.{SpelledSample}
 use Rattle.log_number.specs.Promises.{Bytes}
@@ -55,6 +55,13 @@ paperDay = day paper (sampled ∷ [])
 -- in precharge, cool
 abbrev pub coolDay : List Event
 coolDay = day paper (sample 1000 5000 0 70000 0 ∷ [])
+
+-- cool beside warm, as an event and after the paper's power-on
+abbrev pub besides : Event
+besides = ObserveTwo (record { sample = sample 1000 7600 0 70000 0; second = 40000 })
+
+abbrev pub besideDay : List Event
+besideDay = PowerOn paper ∷ besides ∷ []
 
 -- a VBAT of each stage, and a limit for one stage alone
 abbrev pub levelOf : Stage → ℕ

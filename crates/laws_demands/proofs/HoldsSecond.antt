@@ -2,6 +2,7 @@
 use mathlib.Core.Path.{refl}
 use Rattle.laws_step.proofs.Given.{each-given}
 use Rattle.laws_step.proofs.Powered.{holds-what-is-said}
+use Rattle.laws_step.proofs.Observed.{holds-what-is-observed}
 use Rattle.laws_account.proofs.Agreeing.{outcome-is-step}
 use Rattle.laws_account.proofs.Looking.{stat-is-model, register-is-model}
 use Rattle.laws_format.proofs.Keeping.{our-reads, our-writes}
@@ -17,7 +18,7 @@ use Rattle.laws_account.proofs.Reports.{report-is-model}
 
 pub second-holds : SecondHolds
 second-holds = record {
-  moves = record { refuses = each-given; moves = outcome-is-step; passes = λ m ok e. refl; begins = holds-what-is-said };
+  moves = record { refuses = each-given; moves = outcome-is-step; passes = λ m ok e. refl; begins = holds-what-is-said; sees = holds-what-is-observed };
   reports = record { reports = λ r accepted. report-is-model r; shows = λ s. refl };
   stats = record { stats = λ r accepted. stat-is-model r; shows = λ s. refl };
   registers = record { reads = register-is-model; shows = λ m address. refl };

@@ -10,6 +10,7 @@ use Rattle.settle_all.specs.Gather.{testsOf}
 use Rattle.settle_all.specs.Settle.{settleOf, forcedOf, settledOf}
 use Rattle.settle_bands.specs.Effect.{shareOf, cutOf, suspendsOf}
 use Rattle.settle_bands.specs.Thresholds.{bandOf}
+use Rattle.settle_bands.specs.Joined.{either, joinedOf, packBandOf}
 use Rattle.settle_levels.specs.Clamps.{baseOf, packClampOf, faultOf}
 use Rattle.settle_levels.specs.Comparators.{latchesOf, shortOf, lowOf, packOverOf}
 use Rattle.settle_levels.specs.Voltage.{chargeVoltageOf, belowRecharge, taperOf}
@@ -35,7 +36,7 @@ use Rattle.step_flags.specs.Edges.{edgesOf, seenOf}
 use Rattle.step_flags.specs.Expiry.{expiredOf, expiresOf}
 use Rattle.step_kinds.specs.Finish.{finishOf}
 use Rattle.step_kinds.specs.Plain.{setOf, writtenOf}
-use Rattle.step_turns.specs.Ranges.{profileInRange, sampleInRange}
+use Rattle.step_turns.specs.Ranges.{profileInRange, sampleInRange, twoInRange}
 use Rattle.step_turns.specs.Turns.{turnOf}
 use Rattle.laws_third.specs.Demand.{ranBy}
 use Rattle.state_parts.specs.With.{withCycle}
@@ -62,7 +63,7 @@ begins precharge time = refl
 begins fast time = refl
 
 unfit : (s : Stage) (t : ℕ) → stateOk (invented s (suc t)) ≡ false
-unfolding stepOf reportOf fastCurrent chargeClampOf chargeVoltageOf inputLimitOf shareOf cutOf baseOf packClampOf inPack belowShare firstOf stateOk movedOf profileOk settingsOk registersOk cycleOk watchdogOk sampleOk setOf observeOf finishOf settledOf testsOf mayHold storeOf writeOf observedOf resetOf settleOf edgesOf merged pulseOf timesOf unitsOf bandOf cycleOf phaseOf permittedOf suspendsOf belowRecharge taperOf endingOf flagsNumber startState heldOf wordsOk rangeOf writtenTo countedOf expiredOf clearedIf startSettings resetRegisters startVsysmin takenBy forcedOf latchesOf seenOf regulatedOf clearsOf endsOf judgedOf faultOf reachedOf settingNumbers fieldsOf ranges recounted writtenRegisters gathered startVreg startIchg shortOf lowOf packOverOf restartsOf fields turnedBy changeOf followedOf writtenOf turnOf profileInRange sampleInRange seenOn startWords restoredBy withoutOverrides putIn withWord putAt expiresOf
+unfolding stepOf reportOf fastCurrent chargeClampOf chargeVoltageOf inputLimitOf shareOf cutOf baseOf packClampOf inPack belowShare firstOf stateOk movedOf profileOk settingsOk registersOk cycleOk watchdogOk sampleOk setOf observeOf finishOf settledOf testsOf mayHold storeOf writeOf observedOf resetOf settleOf edgesOf merged pulseOf timesOf unitsOf packBandOf joinedOf either bandOf cycleOf phaseOf permittedOf suspendsOf belowRecharge taperOf endingOf flagsNumber startState heldOf wordsOk rangeOf writtenTo countedOf expiredOf clearedIf startSettings resetRegisters startVsysmin takenBy forcedOf latchesOf seenOf regulatedOf clearsOf endsOf judgedOf faultOf reachedOf settingNumbers fieldsOf ranges recounted writtenRegisters gathered startVreg startIchg shortOf lowOf packOverOf restartsOf fields turnedBy changeOf followedOf writtenOf turnOf profileInRange sampleInRange twoInRange seenOn startWords restoredBy withoutOverrides putIn withWord putAt expiresOf
 unfit trickle t = simp eqb·suc-zero
 unfit precharge t = simp eqb·suc-zero
 unfit fast t = simp eqb·suc-zero

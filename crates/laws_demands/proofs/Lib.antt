@@ -17,6 +17,7 @@ pub mod EndTest
 pub mod BasePoint
 pub mod Older
 pub mod Soldered
+pub mod Thermistors
 pub mod Fives
 pub mod Typed
 mod Invented

@@ -13,9 +13,9 @@ use Rattle.laws_format.specs.Format.{Spells, kind-then-numbers, SpellsAll, no-e
 use Rattle.laws_format.specs.Older.{readsBy, Lacks, HasAll}
 use Rattle.laws_format.proofs.Formats.{listed-is}
 use Rattle.laws_format.proofs.Logs.{some-bytes}
-use Rattle.laws_format.proofs.Older.{every-old-reader, base-lacks-nine}
+use Rattle.laws_format.proofs.Older.{every-old-reader, base-lacks-nine, lack-two}
 use Rattle.laws_demands.specs.Printed.{Log, readOn, logFrom, printedBy}
-use Rattle.laws_demands.specs.Older.{OldProgramStops, BaseStopsAtNine}
+use Rattle.laws_demands.specs.Older.{OldProgramStops, BaseStopsAtNine, OneTsStopsAtTen}
 
 -- records have a byte at least
 few : {es : List Event} {bytes : List ℕ} → SpellsAll es bytes → length es ≤ length bytes
@@ -54,3 +54,6 @@ old-program-stops table e lacks step report es bytes spelling rest h so sp =
 
 pub base-stops-at-nine : BaseStopsAtNine
 base-stops-at-nine r = old-program-stops _ _ base-lacks-nine
+
+pub one-ts-stops-at-ten : OneTsStopsAtTen
+one-ts-stops-at-ten t = old-program-stops _ _ (lack-two .ten)

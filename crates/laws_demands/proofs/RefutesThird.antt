@@ -10,6 +10,7 @@ use Rattle.settle_all.specs.Gather.{testsOf}
 use Rattle.settle_all.specs.Settle.{settleOf, forcedOf, settledOf}
 use Rattle.settle_bands.specs.Effect.{shareOf, cutOf, suspendsOf}
 use Rattle.settle_bands.specs.Thresholds.{bandOf}
+use Rattle.settle_bands.specs.Joined.{either, joinedOf, packBandOf}
 use Rattle.settle_levels.specs.Clamps.{baseOf, packClampOf, faultOf}
 use Rattle.settle_levels.specs.Comparators.{latchesOf, shortOf, lowOf, packOverOf}
 use Rattle.settle_levels.specs.Voltage.{chargeVoltageOf, belowRecharge, taperOf}
@@ -35,12 +36,13 @@ use Rattle.step_flags.specs.Edges.{edgesOf, seenOf}
 use Rattle.step_flags.specs.Expiry.{expiredOf, expiresOf}
 use Rattle.step_kinds.specs.Finish.{finishOf}
 use Rattle.step_kinds.specs.Plain.{setOf, writtenOf}
-use Rattle.step_turns.specs.Ranges.{profileInRange, sampleInRange}
+use Rattle.step_turns.specs.Ranges.{profileInRange, sampleInRange, twoInRange}
 use Rattle.step_turns.specs.Turns.{turnOf}
 use Rattle.laws_third.specs.Demand.{ranBy, ThirdOfLists}
 use Rattle.state_parts.specs.declared.state.Model.{Model}
 use Rattle.state_parts.specs.declared.state.Model.the-variants.{Off, On}
 use Rattle.log_event.specs.declared.Event.{Event}
+use Rattle.state_parts.specs.declared.band.Band.the-variants.{Normal, Cool, Warm}
 use Rattle.laws_account.specs.Cycles.{Stage, trickle, precharge, fast}
 use Rattle.laws_witness.specs.Days.{warmAt}
 use Rattle.laws_witness.specs.Clauses.{ends}
@@ -51,7 +53,8 @@ use Rattle.laws_demands.specs.Wrong.{worksOnce, refusesAlways, ignoresEv
 use Rattle.laws_demands.specs.Slips.{timesAfter, halvesByNew, keepsTimes}
 use Rattle.laws_demands.specs.BasePoint.{stepByBase, untilEnd, customer, phasesBy, CustomerTold}
 use Rattle.laws_demands.specs.EndTest.{neverRestarts}
-use Rattle.laws_demands.proofs.Days.{powered, paperDay, secondIn, unlimitedIn, trickleDay, regulatedDay, restartDay, differ}
+use Rattle.laws_demands.specs.Thermistors.{byFirst, bySecond, byWarmer, mixedAs}
+use Rattle.laws_demands.proofs.Days.{powered, paperDay, secondIn, unlimitedIn, trickleDay, regulatedDay, restartDay, besideDay, differ}
 use Rattle.laws_demands.proofs.BasePoint.{customer-past}
 use Rattle.laws_demands.proofs.Against.{after, currentBy, agrees}
 use Rattle.laws_demands.proofs.Invented.{stands}
@@ -76,13 +79,13 @@ zero-always (On s) = refl
 
 -- a stage's time invented: 0 at its limit, or a number where it has none
 never : (s : Stage) → ¬ ThirdOfLists (inventsTimes s 0) reportOf
-unfolding inventsTimes stepOf reportOf fastCurrent chargeClampOf chargeVoltageOf inputLimitOf shareOf cutOf baseOf packClampOf inPack belowShare firstOf stateOk movedOf profileOk settingsOk registersOk cycleOk watchdogOk sampleOk setOf observeOf finishOf settledOf testsOf mayHold storeOf writeOf observedOf resetOf settleOf edgesOf merged pulseOf timesOf unitsOf bandOf cycleOf phaseOf permittedOf suspendsOf belowRecharge taperOf endingOf flagsNumber startState heldOf wordsOk rangeOf writtenTo countedOf expiredOf clearedIf startSettings resetRegisters startVsysmin takenBy forcedOf latchesOf seenOf regulatedOf clearsOf endsOf judgedOf faultOf reachedOf settingNumbers fieldsOf ranges recounted writtenRegisters gathered startVreg startIchg shortOf lowOf packOverOf restartsOf fields turnedBy changeOf followedOf writtenOf turnOf profileInRange sampleInRange seenOn ranBy startWords restoredBy withoutOverrides putIn withWord putAt expiresOf
+unfolding inventsTimes stepOf reportOf fastCurrent chargeClampOf chargeVoltageOf inputLimitOf shareOf cutOf baseOf packClampOf inPack belowShare firstOf stateOk movedOf profileOk settingsOk registersOk cycleOk watchdogOk sampleOk setOf observeOf finishOf settledOf testsOf mayHold storeOf writeOf observedOf resetOf settleOf edgesOf merged pulseOf timesOf unitsOf packBandOf joinedOf either bandOf cycleOf phaseOf permittedOf suspendsOf belowRecharge taperOf endingOf flagsNumber startState heldOf wordsOk rangeOf writtenTo countedOf expiredOf clearedIf startSettings resetRegisters startVsysmin takenBy forcedOf latchesOf seenOf regulatedOf clearsOf endsOf judgedOf faultOf reachedOf settingNumbers fieldsOf ranges recounted writtenRegisters gathered startVreg startIchg shortOf lowOf packOverOf restartsOf fields turnedBy changeOf followedOf writtenOf turnOf profileInRange sampleInRange twoInRange seenOn ranBy startWords restoredBy withoutOverrides putIn withWord putAt expiresOf
 never trickle = charges-there _ _ (secondIn trickle) (omega arith) refl
 never precharge = charges-there _ _ (secondIn precharge) (omega arith) refl
 never fast = charges-there _ _ (secondIn fast) (omega arith) refl
 
 some-time : (s : Stage) (t : ℕ) → ¬ ThirdOfLists (inventsTimes s (suc t)) reportOf
-unfolding stepOf reportOf fastCurrent chargeClampOf chargeVoltageOf inputLimitOf shareOf cutOf baseOf packClampOf inPack belowShare firstOf stateOk movedOf profileOk settingsOk registersOk cycleOk watchdogOk sampleOk setOf observeOf finishOf settledOf testsOf mayHold storeOf writeOf observedOf resetOf settleOf edgesOf merged pulseOf timesOf unitsOf bandOf cycleOf phaseOf permittedOf suspendsOf belowRecharge taperOf endingOf flagsNumber startState heldOf wordsOk rangeOf writtenTo countedOf expiredOf clearedIf startSettings resetRegisters startVsysmin takenBy forcedOf latchesOf seenOf regulatedOf clearsOf endsOf judgedOf faultOf reachedOf settingNumbers fieldsOf ranges recounted writtenRegisters gathered startVreg startIchg shortOf lowOf packOverOf restartsOf fields turnedBy changeOf followedOf writtenOf turnOf profileInRange sampleInRange seenOn ranBy startWords restoredBy withoutOverrides putIn withWord putAt expiresOf
+unfolding stepOf reportOf fastCurrent chargeClampOf chargeVoltageOf inputLimitOf shareOf cutOf baseOf packClampOf inPack belowShare firstOf stateOk movedOf profileOk settingsOk registersOk cycleOk watchdogOk sampleOk setOf observeOf finishOf settledOf testsOf mayHold storeOf writeOf observedOf resetOf settleOf edgesOf merged pulseOf timesOf unitsOf packBandOf joinedOf either bandOf cycleOf phaseOf permittedOf suspendsOf belowRecharge taperOf endingOf flagsNumber startState heldOf wordsOk rangeOf writtenTo countedOf expiredOf clearedIf startSettings resetRegisters startVsysmin takenBy forcedOf latchesOf seenOf regulatedOf clearsOf endsOf judgedOf faultOf reachedOf settingNumbers fieldsOf ranges recounted writtenRegisters gathered startVreg startIchg shortOf lowOf packOverOf restartsOf fields turnedBy changeOf followedOf writtenOf turnOf profileInRange sampleInRange twoInRange seenOn ranBy startWords restoredBy withoutOverrides putIn withWord putAt expiresOf
 some-time trickle t = rests-there _ _ (unlimitedIn trickle) (ap (currentBy reportOf) (stands trickle t)) (omega arith)
 some-time precharge t = rests-there _ _ (unlimitedIn precharge) (ap (currentBy reportOf) (stands precharge t)) (omega arith)
 some-time fast t = rests-there _ _ (unlimitedIn fast) (ap (currentBy reportOf) (stands fast t)) (omega arith)
@@ -92,7 +95,7 @@ made s zero = never s
 made s (suc t) = some-time s t
 
 pub third-refuted : ThirdRefuted
-unfolding refusesAlways ignoresEvents worksOnce powersOnce timesAfter halvesByNew keepsTimes stepByBase neverRestarts stepOf reportOf fastCurrent chargeClampOf chargeVoltageOf inputLimitOf shareOf cutOf baseOf packClampOf inPack belowShare firstOf stateOk movedOf profileOk settingsOk registersOk cycleOk watchdogOk sampleOk setOf observeOf finishOf settledOf testsOf mayHold storeOf writeOf observedOf resetOf settleOf edgesOf merged pulseOf timesOf unitsOf bandOf cycleOf phaseOf permittedOf suspendsOf belowRecharge taperOf endingOf flagsNumber startState heldOf wordsOk rangeOf writtenTo countedOf expiredOf clearedIf startSettings resetRegisters startVsysmin takenBy forcedOf latchesOf seenOf regulatedOf clearsOf endsOf judgedOf faultOf reachedOf settingNumbers fieldsOf ranges recounted writtenRegisters gathered startVreg startIchg shortOf lowOf packOverOf restartsOf fields turnedBy changeOf followedOf writtenOf turnOf profileInRange sampleInRange seenOn ranBy startWords restoredBy withoutOverrides putIn withWord putAt expiresOf
+unfolding refusesAlways ignoresEvents worksOnce powersOnce timesAfter halvesByNew keepsTimes stepByBase neverRestarts byFirst bySecond byWarmer mixedAs stepOf reportOf fastCurrent chargeClampOf chargeVoltageOf inputLimitOf shareOf cutOf baseOf packClampOf inPack belowShare firstOf stateOk movedOf profileOk settingsOk registersOk cycleOk watchdogOk sampleOk setOf observeOf finishOf settledOf testsOf mayHold storeOf writeOf observedOf resetOf settleOf edgesOf merged pulseOf timesOf unitsOf packBandOf joinedOf either bandOf cycleOf phaseOf permittedOf suspendsOf belowRecharge taperOf endingOf flagsNumber startState heldOf wordsOk rangeOf writtenTo countedOf expiredOf clearedIf startSettings resetRegisters startVsysmin takenBy forcedOf latchesOf seenOf regulatedOf clearsOf endsOf judgedOf faultOf reachedOf settingNumbers fieldsOf ranges recounted writtenRegisters gathered startVreg startIchg shortOf lowOf packOverOf restartsOf fields turnedBy changeOf followedOf writtenOf turnOf profileInRange sampleInRange twoInRange seenOn ranBy startWords restoredBy withoutOverrides putIn withWord putAt expiresOf
 third-refuted = record {
   refuses = λ r report. rests-there (refusesAlways r) report paperDay refl (omega arith);
   zeros = λ step. rests-there step reportsZeros paperDay (zero-always (ranBy step Off paperDay)) (omega arith);
@@ -105,14 +108,20 @@ third-refuted = record {
   uncleared = rests-there keepsTimes reportOf restartDay refl (omega arith);
   point = charges-there stepByBase reportOf (untilEnd 7890) (omega arith) refl;
   restart = rests-there neverRestarts reportOf (customer 7890) refl (omega arith);
+  firstTs = charges-there byFirst reportOf besideDay (omega arith) refl;
+  secondTs = charges-there bySecond reportOf besideDay (omega arith) refl;
+  warmer = charges-there byWarmer reportOf besideDay (omega arith) refl;
+  mixedNormal = charges-there (mixedAs Normal) reportOf besideDay (omega arith) refl;
+  mixedCool = charges-there (mixedAs Cool) reportOf besideDay (omega arith) refl;
+  mixedWarm = charges-there (mixedAs Warm) reportOf besideDay (omega arith) refl;
 }
 
 -- the customer's log, by this product and by the rule before
 pub customer-told : CustomerTold
-unfolding phasesBy stepByBase neverRestarts stepOf reportOf fastCurrent chargeClampOf chargeVoltageOf inputLimitOf shareOf cutOf baseOf packClampOf inPack belowShare firstOf stateOk movedOf profileOk settingsOk registersOk cycleOk watchdogOk sampleOk setOf observeOf finishOf settledOf testsOf mayHold storeOf writeOf observedOf resetOf settleOf edgesOf merged pulseOf timesOf unitsOf bandOf cycleOf phaseOf permittedOf suspendsOf belowRecharge taperOf endingOf flagsNumber startState heldOf wordsOk rangeOf writtenTo countedOf expiredOf clearedIf startSettings resetRegisters startVsysmin takenBy forcedOf latchesOf seenOf regulatedOf clearsOf endsOf judgedOf faultOf reachedOf settingNumbers fieldsOf ranges recounted writtenRegisters gathered startVreg startIchg shortOf lowOf packOverOf restartsOf fields turnedBy changeOf followedOf writtenOf turnOf profileInRange sampleInRange seenOn ranBy startWords restoredBy withoutOverrides putIn withWord putAt expiresOf
+unfolding phasesBy stepByBase neverRestarts stepOf reportOf fastCurrent chargeClampOf chargeVoltageOf inputLimitOf shareOf cutOf baseOf packClampOf inPack belowShare firstOf stateOk movedOf profileOk settingsOk registersOk cycleOk watchdogOk sampleOk setOf observeOf finishOf settledOf testsOf mayHold storeOf writeOf observedOf resetOf settleOf edgesOf merged pulseOf timesOf unitsOf packBandOf joinedOf either bandOf cycleOf phaseOf permittedOf suspendsOf belowRecharge taperOf endingOf flagsNumber startState heldOf wordsOk rangeOf writtenTo countedOf expiredOf clearedIf startSettings resetRegisters startVsysmin takenBy forcedOf latchesOf seenOf regulatedOf clearsOf endsOf judgedOf faultOf reachedOf settingNumbers fieldsOf ranges recounted writtenRegisters gathered startVreg startIchg shortOf lowOf packOverOf restartsOf fields turnedBy changeOf followedOf writtenOf turnOf profileInRange sampleInRange twoInRange seenOn ranBy startWords restoredBy withoutOverrides putIn withWord putAt expiresOf
 customer-told = record { ours = refl; byBase = refl; unrestarted = refl }
 
 -- at 7,900 an observation ends the charge, and that rule is in phase 4
 pub operators-refuted : OperatorsRefuted
-unfolding stepByBase stepOf reportOf fastCurrent chargeClampOf chargeVoltageOf inputLimitOf shareOf cutOf baseOf packClampOf inPack belowShare firstOf stateOk movedOf profileOk settingsOk registersOk cycleOk watchdogOk sampleOk setOf observeOf finishOf settledOf testsOf mayHold storeOf writeOf observedOf resetOf settleOf edgesOf merged pulseOf timesOf unitsOf bandOf cycleOf phaseOf permittedOf suspendsOf belowRecharge taperOf endingOf flagsNumber startState heldOf wordsOk rangeOf writtenTo countedOf expiredOf clearedIf startSettings resetRegisters startVsysmin takenBy forcedOf latchesOf seenOf regulatedOf clearsOf endsOf judgedOf faultOf reachedOf settingNumbers fieldsOf ranges recounted writtenRegisters gathered startVreg startIchg shortOf lowOf packOverOf restartsOf fields turnedBy changeOf followedOf writtenOf turnOf profileInRange sampleInRange seenOn ranBy startWords restoredBy withoutOverrides putIn withWord putAt expiresOf
+unfolding stepByBase stepOf reportOf fastCurrent chargeClampOf chargeVoltageOf inputLimitOf shareOf cutOf baseOf packClampOf inPack belowShare firstOf stateOk movedOf profileOk settingsOk registersOk cycleOk watchdogOk sampleOk setOf observeOf finishOf settledOf testsOf mayHold storeOf writeOf observedOf resetOf settleOf edgesOf merged pulseOf timesOf unitsOf packBandOf joinedOf either bandOf cycleOf phaseOf permittedOf suspendsOf belowRecharge taperOf endingOf flagsNumber startState heldOf wordsOk rangeOf writtenTo countedOf expiredOf clearedIf startSettings resetRegisters startVsysmin takenBy forcedOf latchesOf seenOf regulatedOf clearsOf endsOf judgedOf faultOf reachedOf settingNumbers fieldsOf ranges recounted writtenRegisters gathered startVreg startIchg shortOf lowOf packOverOf restartsOf fields turnedBy changeOf followedOf writtenOf turnOf profileInRange sampleInRange twoInRange seenOn ranBy startWords restoredBy withoutOverrides putIn withWord putAt expiresOf
 operators-refuted = record { point = λ d. differ 4 5 refl (d .ends (untilEnd 7900) (warmAt 7900 3) customer-past (each-tried ends .meets)) }

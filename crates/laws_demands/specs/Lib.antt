@@ -13,6 +13,7 @@ pub mod Operators
 pub mod EndTest
 pub mod BasePoint
 pub mod Soldered
+pub mod Thermistors
 pub mod Fives
 pub mod Typed
 pub mod Older

@@ -7,11 +7,12 @@ use lib.ListN.{length}
 use Rattle.log_event.specs.Kinds.{KindRow, kindByte}
 use Rattle.log_event.specs.Events.{kindOf}
 use Rattle.log_event.specs.declared.Event.{Event}
-use Rattle.log_event.specs.declared.Event.the-variants.{PowerOnResistors}
+use Rattle.log_event.specs.declared.Event.the-variants.{PowerOnResistors, ObserveTwo}
 use Rattle.log_event.specs.declared.spelled.SpelledResistors.{SpelledResistors}
+use Rattle.log_event.specs.declared.spelled.SpelledTwo.{SpelledTwo}
 use Rattle.state_parts.specs.declared.state.Model.the-variants.{Off}
 use Rattle.laws_format.specs.Format.{Spells, SpellsAll}
-use Rattle.laws_format.specs.Older.{readsBy, Lacks, HasAll, baseKinds}
+use Rattle.laws_format.specs.Older.{readsBy, Lacks, HasAll, baseKinds, oneTsKinds}
 use Rattle.laws_demands.specs.Product.{Step, Reporter}
 use Rattle.laws_demands.specs.Printed.{linesBy, printedBy}
 
@@ -27,3 +28,7 @@ OldProgramStops = (table : List KindRow) (e : Event) → Lacks table (kindByte (
 -- so the program before 02, R-5, at a power-on by its resistors
 abbrev pub BaseStopsAtNine : Type 0
 BaseStopsAtNine = (r : SpelledResistors) → StopsAt baseKinds (PowerOnResistors r)
+
+-- and the program before 02, R-7, at an observation of two thermistors
+abbrev pub OneTsStopsAtTen : Type 0
+OneTsStopsAtTen = (t : SpelledTwo) → StopsAt oneTsKinds (ObserveTwo t)

@@ -3,11 +3,12 @@ use Prim.Native.Nat.{ℕ}
 use mathlib.Core.Path.{_≡_}
 use mathlib.Core.List.{List}
 use Rattle.base.specs.declared.refusal.Refusal.{Refusal}
+use Rattle.state_parts.specs.declared.band.Band.the-variants.{Normal, Cool, Warm}
 use Rattle.report_state.specs.Report.{reportOf}
 use Rattle.laws_account.specs.Cycles.{Stage}
 use Rattle.c_calls.specs.Promises.{Calls, RefusalLeaves}
 use Rattle.laws_format.specs.Readers.{Reader, Writer, Reads, Writes}
-use Rattle.laws_format.specs.Wrong.{readsSwapped, writesSwapped, readsFirst, refusesWithOne, swapsTwoAndThree, tellsStart}
+use Rattle.laws_format.specs.Wrong.{readsSwapped, writesSwapped, readsAfterBits, readsFirst, refusesWithOne, swapsTwoAndThree, tellsStart}
 use Rattle.laws_pairs.specs.Compared.{Comparer, Compares}
 use Rattle.laws_third.specs.Demand.{ThirdOfLists}
 use Rattle.laws_heads.specs.Third.{ThirdOfImages}
@@ -21,6 +22,7 @@ use Rattle.laws_demands.specs.Operators.{CountedOn}
 use Rattle.laws_demands.specs.EndTest.{neverRestarts}
 use Rattle.laws_demands.specs.BasePoint.{stepByBase}
 use Rattle.laws_demands.specs.Soldered.{byMeasured, withoutEnds, oneHigher, oneLower, widerIlim, faultRefused}
+use Rattle.laws_demands.specs.Thermistors.{byFirst, bySecond, byWarmer, mixedAs}
 use Rattle.laws_demands.specs.Typed.{takesHalf, keepsFront, settlesBetween, sameRun, clearsBoth}
 use Rattle.laws_demands.specs.Slips.{sameWrite, scalesPrecharge, timesAfter, judgesCool, halvesByNew, keepsTimes}
 
@@ -81,6 +83,14 @@ pub record SecondRefuted : Type 0 where
   pub between : StepBreaks settlesBetween
   pub typed : StepBreaks sameRun
   pub both : StepBreaks clearsBoth
+  -- 02, R-7: the first thermistor alone, or the second; the warmer one; cool beside warm as normal, as cool or as warm; the second value read after the bits
+  pub firstTs : StepBreaks byFirst
+  pub secondTs : StepBreaks bySecond
+  pub warmer : StepBreaks byWarmer
+  pub mixedNormal : StepBreaks (mixedAs Normal)
+  pub mixedCool : StepBreaks (mixedAs Cool)
+  pub mixedWarm : StepBreaks (mixedAs Warm)
+  pub afterBits : ReadBreaks readsAfterBits
   -- right after every run, and wrong on a model that passes but that no run leaves
   pub stray : StepBreaks dropsStray
   -- another byte code; a record read at place 0 alone; one number for whatever can't be read, and two that are swapped
@@ -117,6 +127,13 @@ pub record ThirdRefuted : Type 0 where
   pub point : ¬ ThirdOfLists stepByBase reportOf
   -- 02, R-2 taken too far: it rests where a new cycle has started
   pub restart : ¬ ThirdOfLists neverRestarts reportOf
+  -- 02, R-7, "Demand 3's suspending temperature includes it": each charges where cool beside warm suspends
+  pub firstTs : ¬ ThirdOfLists byFirst reportOf
+  pub secondTs : ¬ ThirdOfLists bySecond reportOf
+  pub warmer : ¬ ThirdOfLists byWarmer reportOf
+  pub mixedNormal : ¬ ThirdOfLists (mixedAs Normal) reportOf
+  pub mixedCool : ¬ ThirdOfLists (mixedAs Cool) reportOf
+  pub mixedWarm : ¬ ThirdOfLists (mixedAs Warm) reportOf
 
 -- and of what the operators may count on
 pub record OperatorsRefuted : Type 0 where

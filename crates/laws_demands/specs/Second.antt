@@ -22,6 +22,7 @@ use Rattle.report_state.specs.Stats.{statOf}
 use Rattle.step_event.specs.Steps.{modelOk, stepOf}
 use Rattle.laws_step.specs.Rows.{Row}
 use Rattle.laws_step.specs.Powered.{HoldsWhatIsSaid}
+use Rattle.laws_step.specs.Observed.{HoldsWhatIsObserved}
 use Rattle.laws_account.specs.History.{Run}
 use Rattle.laws_account.specs.Refused.{Accepted, Past}
 use Rattle.laws_account.specs.States.{stateOf, modelOf, outcomeOf}
@@ -46,6 +47,8 @@ pub record Moves (step : Step) : Type 0 where
   pub passes : (m : Model) → modelOk m ≡ true → (e : Event) → step m e ≡ stepOf m e
   -- what is held of a power-on is what its own numbers say, whichever kind brought them (02, R-5)
   pub begins : HoldsWhatIsSaid step
+  -- and so is what is held of an observation (R-7)
+  pub sees : HoldsWhatIsObserved step
 
 -- the same of what is reported
 pub record Reports (report : Reporter) : Type 0 where

@@ -8,18 +8,19 @@ use Rattle.state_parts.specs.With.{withRegisters, withCycle, withWords}
 use Rattle.state_parts.specs.declared.profile.Profile.{Profile}
 use Rattle.state_table.specs.Rows.{digitOf, cellOverride}
 use Rattle.state_fields.specs.Held.{withField}
-use Rattle.state_parts.specs.declared.band.Band.{Band}
-use Rattle.state_parts.specs.declared.band.Band.the-variants.{Normal, Cool}
+use Rattle.state_parts.specs.declared.band.TsBand.{TsBand}
+use Rattle.state_parts.specs.declared.band.TsBand.the-variants.{Normal, Cool}
 use Rattle.state_parts.specs.declared.registers.Registers.{Registers}
 use Rattle.state_parts.specs.declared.sample.Sample.{Sample}
 use Rattle.state_parts.specs.declared.state.State.{State}
 use Rattle.state_parts.specs.declared.state.Model.{Model}
 use Rattle.state_parts.specs.declared.state.Model.the-variants.{Off, On}
 use Rattle.settle_bands.specs.Thresholds.{th2Of, tsOff, jeitaOn, bandOf}
+use Rattle.settle_bands.specs.Joined.{joinedOf}
 use Rattle.settle_bands.specs.Effect.{shareOf}
 use Rattle.state_parts.specs.Stages.{charging}
 use Rattle.settle_all.specs.Gather.{testsOf}
-use Rattle.settle_all.specs.Settle.{settledOf, settleOf}
+use Rattle.settle_all.specs.Settle.{Bander, settleWith, settleOf}
 use Rattle.report_state.specs.Report.{trickleCurrent, currentIn, fastCurrent, reportOf}
 use Rattle.step_turns.specs.Turns.{turnOf}
 use Rattle.step_turns.specs.declared.later.Later.{Later}
@@ -28,10 +29,10 @@ use Rattle.step_turns.specs.declared.turn.Turn.{Turn}
 use Rattle.step_turns.specs.declared.turn.Turn.the-variants.{Opens, Follows, OpensOutside, FollowsOutside}
 use Rattle.step_flags.specs.Edges.{seenOf}
 use Rattle.step_kinds.specs.Answers.{Outcome}
-use Rattle.step_kinds.specs.Finish.{finishOf}
+use Rattle.step_kinds.specs.Finish.{finishBy, finishOf}
 use Rattle.step_kinds.specs.declared.change.Way.the-variants.{Observes}
 use Rattle.step_event.specs.Clock.{unitsOf, timesOf, observedOf}
-use Rattle.step_event.specs.Steps.{stepOf}
+use Rattle.step_event.specs.Steps.{endedBy, changeOf, stepOf}
 use Rattle.laws_demands.specs.Product.{Step, Reporter}
 use Rattle.laws_demands.specs.Wrong.{withModel}
 
@@ -119,13 +120,13 @@ unfoldable pub keepsTimes : Step
 keepsTimes Off e = stepOf Off e
 keepsTimes (On s) e = withModel (stepOf (On s) e) (keptOn s (stepOf (On s) e .model))
 
--- "judging cool before cold": what an event leaves is judged again by that band
-unfoldable pub coolFirst : Profile → Registers → ℕ → Band
+-- this product's step, but that it settles by another band
+abbrev pub stepBanded : Bander → Step
+stepBanded band m e = endedBy (finishBy (settleWith band testsOf)) m (changeOf m (turnOf e))
+
+-- "judging cool before cold", of each thermistor
+unfoldable pub coolFirst : Profile → Registers → ℕ → TsBand
 coolFirst p g ts = pick (tsOff g) Normal (pick (jeitaOn g && leb (th2Of p g) ts) Cool (bandOf p g ts))
 
-abbrev pub judgedCool : Model → Model
-judgedCool Off = Off
-judgedCool (On s) = let b = coolFirst (s .profile) (s .registers) (s .sample .ts) in On (settledOf s (s .latches) b (testsOf s (s .latches) b false))
-
 unfoldable pub judgesCool : Step
-judgesCool m e = withModel (stepOf m e) (judgedCool (stepOf m e .model))
+judgesCool m e = stepBanded (λ p g x. joinedOf (coolFirst p g (x .ts)) (coolFirst p g (x .secondts))) m e

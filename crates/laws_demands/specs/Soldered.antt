@@ -5,7 +5,7 @@ use mathlib.Core.Bool.{_&&_, _||_}
 use lib.Dec.{leb, ltb, eqb}
 use Rattle.base.specs.Pick.{pick}
 use Rattle.log_event.specs.declared.Event.{Event}
-use Rattle.log_event.specs.declared.Event.the-variants.{PowerOn, Set, Write, TakeFlags, Observe, Service, Reset, PowerOnResistors, WriteRun, ReadFlags}
+use Rattle.log_event.specs.declared.Event.the-variants.{PowerOn, Set, Write, TakeFlags, Observe, Service, Reset, PowerOnResistors, ObserveTwo, WriteRun, ReadFlags}
 use Rattle.log_event.specs.declared.spelled.SpelledResistors.{SpelledResistors}
 use Rattle.step_pins.specs.Codes.{resistors, distance, matches, lowestBy, codeOf}
 use Rattle.step_turns.specs.Coded.{codedBy, codedOf}
@@ -34,6 +34,7 @@ otherTurn other (Observe x) = turnOf (Observe x)
 otherTurn other Service = turnOf Service
 otherTurn other Reset = turnOf Reset
 otherTurn other (PowerOnResistors r) = other r
+otherTurn other (ObserveTwo t) = turnOf (ObserveTwo t)
 otherTurn other (WriteRun address raw) = turnOf (WriteRun address raw)
 otherTurn other (ReadFlags address) = turnOf (ReadFlags address)
 

@@ -22,7 +22,7 @@ use Rattle.state_parts.specs.declared.cycle.Cycle.{Cycle}
 use Rattle.step_turns.specs.Turns.{turnOf}
 use Rattle.step_turns.specs.declared.turn.Turn.{Turn}
 use Rattle.step_turns.specs.declared.turn.Turn.the-variants.{Opens, Follows, OpensOutside, FollowsOutside}
-use Rattle.settle_bands.specs.Thresholds.{bandOf}
+use Rattle.settle_bands.specs.Joined.{packBandOf}
 use Rattle.state_parts.specs.Numbers.{bandNumber}
 use Rattle.laws_account.specs.Cycles.{Stage, trickle, precharge, fast}
 use Rattle.laws_format.specs.Readers.{Reader, Writer}
@@ -89,7 +89,7 @@ writesConstant bytes e buffer = (written bytes buffer, put bytes buffer)
 
 -- throws every event away on a state whose band isn't that of its sample: after every run it is
 abbrev pub fresh : State → Bool
-fresh s = eqb (bandNumber (s .band)) (bandNumber (bandOf (s .profile) (s .registers) (s .sample .ts)))
+fresh s = eqb (bandNumber (s .band)) (bandNumber (packBandOf (s .profile) (s .registers) (s .sample)))
 
 unfoldable pub dropsStray : Step
 dropsStray Off e = stepOf Off e

@@ -9,9 +9,10 @@ use Rattle.base.specs.Writing.{Wrote, written, put}
 use Rattle.log_number.specs.Number.{readNumber, readGroups}
 use Rattle.log_number.specs.Promises.{Bytes}
 use Rattle.log_number.proofs.Strings.{bytes-each}
-use Rattle.log_event.specs.Events.{kindOf, eventOf}
+use Rattle.log_event.specs.Items.{values}
+use Rattle.log_event.specs.Events.{kindOf, itemsOf, eventOf}
 use Rattle.log_event.specs.Kinds.{kindByte}
-use Rattle.log_event.specs.declared.Event.the-variants.{Service}
+use Rattle.log_event.specs.declared.Event.the-variants.{Service, ObserveTwo}
 use Rattle.log_raw.specs.Raw.{readRaw}
 use Rattle.log_record.specs.Items.{spellItems, readItems}
 use Rattle.log_record.specs.Records.{Met, met, refused, end, spellEvent, eventWritten, eventPut, readRecord, recordAt}
@@ -24,6 +25,12 @@ abbrev numberOf : Met → ℕ
 numberOf (met e next) = kindByte (kindOf e)
 numberOf (refused n place) = 10 + n
 numberOf end = 0
+
+-- the sixth number of the event that is read
+abbrev sixth : Met → ℕ
+sixth (met e next) = getD (values (itemsOf e)) 5 0
+sixth (refused n place) = 0
+sixth end = 0
 
 abbrev firstByte : Wrote × List ℕ → ℕ
 firstByte w = getD (w .1) 0 0
@@ -63,6 +70,8 @@ format-refuted = record {
   otherCode = λ d. let z : _≡_ {A = ℕ} 7 6 = ap numberOf (d .back Service (0x06 ∷ []) (paper-bytes .service) [] []) in omega arith;
   -- a service is written as 07
   otherCodeWritten = λ d. let z : _≡_ {A = ℕ} 7 6 = ap firstByte (d .written Service (0x06 ∷ []) (paper-bytes .service) (0x00 ∷ []) (omega arith)) in omega arith;
+  -- 02, R-7's bytes, which have 40,000 and then 7
+  secondAfterBits = λ d. let z : _≡_ {A = ℕ} 7 40000 = ap sixth (d .back (ObserveTwo _) _ (paper-bytes .observeTwo) [] []) in omega arith;
   -- the log 06 06 at place 1
   firstAlone = λ d. let z : _≡_ {A = ℕ} 11 6 = ap numberOf (d .back Service (0x06 ∷ []) (paper-bytes .service) (0x06 ∷ []) []) in omega arith;
   -- the log 00

@@ -1,4 +1,4 @@
--- A program by an older table of kinds, and a log that a newer one wrote. 02, R-9: "An old program stops there with 4"; so it does at R-5's kind 9, and at R-3's 8 and 14. It is said of every table and of every
+-- A program by an older table of kinds, and a log that a newer one wrote. 02, R-9: "An old program stops there with 4"; so it does at R-5's kind 9, at R-3's 8 and 14, and at R-7's 10. It is said of every table and of every
 -- kind that the table lacks.
 use Prim.Native.Nat.{ℕ, _+_}
 use mathlib.Core.Path.{_≡_}
@@ -8,7 +8,7 @@ use lib.ListN.{length}
 use Rattle.log_event.specs.Kinds.{KindRow, kindByte, kindRow, kindRows, rowFor}
 use Rattle.log_event.specs.Events.{kindOf}
 use Rattle.log_event.specs.declared.Event.{Event}
-use Rattle.log_event.specs.declared.kinds.Kind.the-variants.{PowerOn, Set, Write, TakeFlags, Observe, Service, Reset, PowerOnResistors}
+use Rattle.log_event.specs.declared.kinds.Kind.the-variants.{PowerOn, Set, Write, TakeFlags, Observe, Service, Reset, WriteRun, PowerOnResistors, ReadFlags}
 use Rattle.log_record.specs.Records.{met, refused, recordAt}
 use Rattle.laws_format.specs.Format.{Spells}
 use Rattle.laws_format.specs.Readers.{Reader}
@@ -55,3 +55,12 @@ pub record LackRuns : Type 0 where
   pub base-fourteen : Lacks baseKinds 14
   pub eight : Lacks earlierKinds 8
   pub fourteen : Lacks earlierKinds 14
+
+-- the table before 02, R-7, with R-3's: none of the three has 10
+abbrev pub oneTsKinds : List KindRow
+oneTsKinds = kindRows (PowerOn ∷ Set ∷ Write ∷ TakeFlags ∷ Observe ∷ Service ∷ Reset ∷ WriteRun ∷ PowerOnResistors ∷ ReadFlags ∷ [])
+
+pub record LackTwo : Type 0 where
+  pub base : Lacks baseKinds 10
+  pub earlier : Lacks earlierKinds 10
+  pub ten : Lacks oneTsKinds 10

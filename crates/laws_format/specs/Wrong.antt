@@ -4,7 +4,8 @@ use lib.ListN.{length}
 use lib.Dec.{leb, eqb}
 use Rattle.base.specs.Pick.{pick}
 use Rattle.log_event.specs.declared.Event.{Event}
-use Rattle.log_event.specs.declared.Event.the-variants.{PowerOn, Set, Write, TakeFlags, Observe, Service, Reset, WriteRun, PowerOnResistors, ReadFlags}
+use Rattle.log_event.specs.declared.Event.the-variants.{PowerOn, Set, Write, TakeFlags, Observe, Service, Reset, WriteRun, PowerOnResistors, ObserveTwo, ReadFlags}
+use Rattle.log_event.specs.declared.spelled.SpelledTwo.{SpelledTwo}
 use Rattle.log_record.specs.Records.{Met, met, refused, end}
 use Rattle.laws_format.specs.Readers.{Reader, Writer, Reads, Writes}
 use Rattle.laws_format.specs.Ours.{ourRead, ourWrite}
@@ -21,6 +22,7 @@ swapped Service = Reset
 swapped Reset = Service
 swapped (WriteRun a b) = WriteRun a b
 swapped (PowerOnResistors r) = PowerOnResistors r
+swapped (ObserveTwo t) = ObserveTwo t
 swapped (ReadFlags a) = ReadFlags a
 
 -- what a reader answers, with another event or with another number for a refusal
@@ -34,6 +36,28 @@ readsSwapped bytes at = changed swapped (λ n. n) (ourRead bytes at)
 
 abbrev pub writesSwapped : Writer
 writesSwapped e buffer = ourWrite (swapped e) buffer
+
+-- 02, R-7: the second thermistor's value read after the bits
+abbrev pub lastSecond : SpelledTwo → SpelledTwo
+lastSecond t =
+    let s = t .sample in
+    record { sample = record { stamp = s .stamp; input = s .input; pack = s .pack; ibat = s .ibat; ts = s .ts; bits = t .second }; second = s .bits }
+
+abbrev pub afterBits : Event → Event
+afterBits (PowerOn p) = PowerOn p
+afterBits (Set n v) = Set n v
+afterBits (Write a b) = Write a b
+afterBits TakeFlags = TakeFlags
+afterBits (Observe s) = Observe s
+afterBits Service = Service
+afterBits Reset = Reset
+afterBits (WriteRun a b) = WriteRun a b
+afterBits (PowerOnResistors r) = PowerOnResistors r
+afterBits (ObserveTwo t) = ObserveTwo (lastSecond t)
+afterBits (ReadFlags a) = ReadFlags a
+
+abbrev pub readsAfterBits : Reader
+readsAfterBits bytes at = changed afterBits (λ n. n) (ourRead bytes at)
 
 -- reads at place 0 alone: 1 at every other place before the log's end
 unfoldable pub readsFirst : Reader
@@ -73,6 +97,7 @@ pub record StartRefuted : Type 0 where
 pub record FormatRefuted : Type 0 where
   pub otherCode : ¬ Reads readsSwapped
   pub otherCodeWritten : ¬ Writes writesSwapped
+  pub secondAfterBits : ¬ Reads readsAfterBits
   pub firstAlone : ¬ Reads readsFirst
   pub oneForAll : ¬ Reads refusesWithOne
   pub twoAndThree : ¬ Reads swapsTwoAndThree

@@ -76,12 +76,12 @@ module _ (calls : Calls) (third : ThirdOfImages calls) (image : List ℕ) (by-no
 -- the image of a model that is off, and the log from its start on
 module _ (calls : Calls) where
   abbrev start : List ℕ
-  start = calls .off (zeros 220) .bytes
+  start = calls .off (zeros 224) .bytes
 
   unstored : ¬ ThirdOfImages (playsUnstored calls)
   unstored third =
-      clash (playsUnstored calls) third start (off (zeros 220) refl)
-      (play [] start (off (zeros 220) refl) first bytes-there 0 (zeros 28) (power ∷ []) (played power 16 stands-there (omega arith)))
+      clash (playsUnstored calls) third start (off (zeros 224) refl)
+      (play [] start (off (zeros 224) refl) first bytes-there 0 (zeros 28) (power ∷ []) (played power 16 stands-there (omega arith)))
 
   abbrev at : ℕ → Ending
   at place = record { code = 0; told = place; next = place }
@@ -97,7 +97,7 @@ module _ (calls : Calls) where
   cut log es bs g e = ap (λ fs. calls .replay start (spellLog (butLast fs)) 0 .bytes) (all-read bs g) ∙ ap (λ fs. calls .replay start (spellLog fs) 0 .bytes) e
 
   moved-by : (log : List ℕ) (es : List Event) {ending : Ending} → Bytes log → ReplayGives log 0 es ending → butLast es ≡ [] → Moved (replaysButLast calls) es (calls .replay start (spellLog []) 0 .bytes)
-  moved-by log es bs g e = subst (λ image. Moved (replaysButLast calls) es image) (cut log es bs g e) (replay [] start (off (zeros 220) refl) log bs 0 es _ g)
+  moved-by log es bs g e = subst (λ image. Moved (replaysButLast calls) es image) (cut log es bs g e) (replay [] start (off (zeros 224) refl) log bs 0 es _ g)
 
   lost : ¬ ThirdOfImages (replaysButLast calls)
   lost third =

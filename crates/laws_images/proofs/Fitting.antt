@@ -7,7 +7,7 @@ use lib.ListN.{getD}
 use Rattle.base.specs.Pick.{bitOf}
 use Rattle.state_parts.specs.Numbers.{phaseNumber, bandNumber}
 use Rattle.state_parts.specs.declared.band.Band.{Band}
-use Rattle.state_parts.specs.declared.band.Band.the-variants.{Normal, Cold, Hot, Cool, Warm}
+use Rattle.state_parts.specs.declared.band.Band.the-variants.{Normal, Cold, Hot, Cool, Warm, Mixed}
 use Rattle.state_parts.specs.declared.latches.Latches.{Latches}
 use Rattle.state_parts.specs.declared.phase.Phase.{Phase}
 use Rattle.state_parts.specs.declared.phase.Phase.the-variants.{Idle, Trickle, Precharge, Fast, Taper, Done, Suspended, Fault}
@@ -39,6 +39,7 @@ band-fits Cold = omega arith
 band-fits Hot = omega arith
 band-fits Cool = omega arith
 band-fits Warm = omega arith
+band-fits Mixed = omega arith
 
 -- each of the numbers, and 0 behind them
 pub each : (ns : List ℕ) → AllWords ns → (i : ℕ) → getD ns i 0 < 2 ^ 32

@@ -38,7 +38,7 @@ unfolding sampleOk
 sample-fits x e h =
     let b = sample-bounds x e in
     let k = simp and-iff at e in
-    let i = ibat-fits (x .ibat) (k .0 .0 .0 .1) (k .0 .0 .1) in
+    let i = ibat-fits (x .ibat) (k .0 .0 .0 .0 .1) (k .0 .0 .0 .1) in
     fits (omega arith)
 
 profile-fits : (p : Profile) → profileOk p ≡ true → p .stamp < 2 ^ 32 → Fits (profileNumbers p)

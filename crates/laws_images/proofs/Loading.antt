@@ -73,7 +73,7 @@ module _ (all : List ℕ) (words : AllWords all) where
     registers = fits (low 24, (high 24, (low 26, (high 26, (low 28, (high 28, (low 30, (high 30, (low 32, (high 32, (word 34, tt)))))))))));
     cycle = fits (word 40, (word 41, (word 42, (bit 43, tt))));
     watchdog = fits (word 44, tt);
-    sample = rw (signs .again (getD all 48 0)) (fits (word 45, (word 46, (word 47, (word 48, (word 49, (word 50, tt)))))));
+    sample = rw (signs .again (getD all 48 0)) (fits (word 45, (word 46, (word 47, (word 48, (word 49, (word 50, (word 51, tt))))))));
     flags = omega arith;
   }
 

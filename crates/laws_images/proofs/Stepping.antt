@@ -28,7 +28,7 @@ use Rattle.state_registers.specs.Writes.{knownAddress, writtenTo, writeOf}
 use Rattle.state_registers.specs.Resets.{resetOf}
 use Rattle.settle_all.specs.Settle.{forcedOf, settledOf, settleOf}
 use Rattle.state_parts.specs.With.{withFlags}
-use Rattle.step_turns.specs.Ranges.{profileInRange, sampleInRange, resistorsInRange}
+use Rattle.step_turns.specs.Ranges.{profileInRange, twoInRange, resistorsInRange}
 use Rattle.step_turns.specs.Coded.{codedOf}
 use Rattle.step_turns.specs.Turns.{heldProfile, heldSample, opensWith, turnOf}
 use Rattle.step_turns.specs.declared.later.Later.{Later}
@@ -92,7 +92,8 @@ spelled (event.PowerOn p) k = in-turn (profileInRange p) (Opens (heldProfile p))
 spelled (event.Set number value) k = tt
 spelled (event.Write address byte) k = tt
 spelled event.TakeFlags k = tt
-spelled (event.Observe x) k = in-turn (sampleInRange x) (Follows (Observe (heldSample x))) FollowsOutside (k .0) tt
+spelled (event.Observe x) k = in-turn (twoInRange x (x .ts)) (Follows (Observe (heldSample x (x .ts)))) FollowsOutside (k .0) tt
+spelled (event.ObserveTwo t) k = in-turn (twoInRange (t .sample) (t .second)) (Follows (Observe (heldSample (t .sample) (t .second)))) FollowsOutside (k .0) tt
 spelled event.Service k = tt
 spelled event.Reset k = tt
 spelled (event.WriteRun first raw) k = tt

@@ -39,6 +39,33 @@ servedLog byte =
     ∷ 0x05 ∷ 0xEB ∷ 0x0E ∷ 0xE0 ∷ 0x5D ∷ 0xB0 ∷ 0x3B ∷ 0x00 ∷ 0xD8 ∷ 0xAD ∷ 0x03 ∷ 0x00
     ∷ 0x05 ∷ 0xEC ∷ 0x0E ∷ 0xE0 ∷ 0x5D ∷ 0xB0 ∷ 0x3B ∷ 0x00 ∷ 0xD8 ∷ 0xAD ∷ 0x03 ∷ 0x00 ∷ []
 
+-- R-7: 01's power-on, and what follows
+abbrev pub pairedLog : List ℕ → List ℕ
+pairedLog bytes = 0x01 ∷ 0x02 ∷ 0x05 ∷ 0x04 ∷ 0x00 ∷ 0x00 ∷ 0x94 ∷ 0x23 ∷ 0x90 ∷ 0x1C ∷ 0xA0 ∷ 0x38 ∷ 0xA0 ∷ 0x99 ∷ 0x02 ∷ 0x00 ∷ bytes
+
+-- 01's observation as kind 10, with this stamp and these two TS, each by its bytes
+abbrev pub pairedSample : List ℕ → List ℕ → List ℕ → List ℕ
+pairedSample stamp ts second = 0x0A ∷ (stamp ++ (0xE0 ∷ 0x5D ∷ 0xB0 ∷ 0x3B ∷ 0x00 ∷ (ts ++ (second ++ (0x00 ∷ [])))))
+
+-- cool, warm and normal: 70,000, 40,000 and 55,000; cold and hot: 80,000 and 30,000; and 100,001
+abbrev pub coolTs : List ℕ
+coolTs = 0xF0 ∷ 0xA2 ∷ 0x04 ∷ []
+
+abbrev pub warmTs : List ℕ
+warmTs = 0xC0 ∷ 0xB8 ∷ 0x02 ∷ []
+
+abbrev pub normalTs : List ℕ
+normalTs = 0xD8 ∷ 0xAD ∷ 0x03 ∷ []
+
+abbrev pub coldTs : List ℕ
+coldTs = 0x80 ∷ 0xF1 ∷ 0x04 ∷ []
+
+abbrev pub hotTs : List ℕ
+hotTs = 0xB0 ∷ 0xEA ∷ 0x01 ∷ []
+
+abbrev pub largeTs : List ℕ
+largeTs = 0xA1 ∷ 0x8D ∷ 0x06 ∷ []
+
 unfoldable pub requested : List Row
 requested =
     -- R-1: taper; done, though 7,890 is below 97% of 8,400; still done; back in normal the band alone restarts the cycle
@@ -51,7 +78,7 @@ requested =
     ∷ row (log (0x02 ∷ 0x01 ∷ 0x80 ∷ 0x80 ∷ 0x80 ∷ 0x80 ∷ 0x10 ∷ 0x00 ∷ [])) (bytesOf "end 0 3 6\n")
     ∷ row (log (0x02 ∷ 0x01 ∷ 0x80 ∷ 0x80 ∷ 0x80 ∷ 0x80 ∷ 0x80 ∷ [])) (bytesOf "end 0 3 6\n")
     -- "Refusals 4 and 14 keep the record's start": a service, and then a byte that is no kind's; the same before a zero group
-    ∷ row (log (0x06 ∷ 0x0A ∷ 0x80 ∷ [])) (bytesOf "1 6 6 0 0 0 0 0 0\nend 1 4 1\n")
+    ∷ row (log (0x06 ∷ 0x12 ∷ 0x80 ∷ [])) (bytesOf "1 6 6 0 0 0 0 0 0\nend 1 4 1\n")
     ∷ row (log (0x06 ∷ 0x02 ∷ 0x80 ∷ 0x00 ∷ [])) (bytesOf "1 6 6 0 0 0 0 0 0\nend 1 2 3\n")
     -- R-5: "From there it acts as kind 1 with those codes": 6,040, 13,700 and 10,500 ohms are 01's codes 2, 5 and 4; so are 5,920, 13,974 and 10,290, at the ends of their spans
     ∷ row (log (solderedLog (0x98 ∷ 0x2F ∷ 0x84 ∷ 0x6B ∷ 0x84 ∷ 0x52 ∷ []) (0x00 ∷ []))) (bytesOf "1 9 0 0 0 0 3300 1 32\n2 5 0 3 1500 8400 3300 1 97\nend 2 0 31\n")
@@ -81,6 +108,15 @@ requested =
     -- "the log reader gives 5 for another length, after 2, and this 5 counts wherever 01 says 1-4"; R-4: "the reader's 5 the length's": 33, and a length that ends with a zero group
     ∷ row (log (0x06 ∷ 0x08 ∷ 0x10 ∷ 0x21 ∷ 0x00 ∷ [])) (bytesOf "1 6 6 0 0 0 0 0 0\nend 1 5 3\n")
     ∷ row (log (0x06 ∷ 0x08 ∷ 0x10 ∷ 0xA1 ∷ 0x00 ∷ [])) (bytesOf "1 6 6 0 0 0 0 0 0\nend 1 2 4\n")
+    -- R-7: cool beside warm suspends, which neither does alone; two normal ones charge; cool beside normal is cool; a second value of 100,001 is 5; cold beside hot suspends; warm beside cool
+    -- after it too, and flag 7 tells the bands apart by a pulse
+    ∷ row (log (pairedLog (
+    pairedSample (0xE8 ∷ 0x07 ∷ []) coolTs warmTs ++ (pairedSample (0xD0 ∷ 0x0F ∷ []) normalTs normalTs ++ (pairedSample (0xB8 ∷ 0x17 ∷ []) coolTs normalTs
+    ++ (pairedSample (0xA0 ∷ 0x1F ∷ []) normalTs largeTs ++ (pairedSample (0xA0 ∷ 0x1F ∷ []) coldTs hotTs ++ pairedSample (0x88 ∷ 0x27 ∷ []) warmTs coolTs)))))))
+    (bytesOf "1 1 0 0 0 0 3300 1 32\n2 10 0 6 0 0 3300 1 225\n3 10 0 3 1500 8400 3300 1 225\n4 10 0 3 300 8400 3300 1 225\n5 10 5 3 300 8400 3300 0 225\n6 10 0 6 0 0 3300 1 225\n7 10 0 6 0 0 3300 1 225\nend 7 0 106\n")
+    -- 01's own log with kind 10 for its observation; and a record that ends before its bits
+    ∷ row (log (pairedLog (pairedSample (0xE8 ∷ 0x07 ∷ []) normalTs normalTs ++ (0x0A ∷ 0xD0 ∷ 0x0F ∷ 0xE0 ∷ 0x5D ∷ 0xB0 ∷ 0x3B ∷ 0x00 ∷ (normalTs ++ normalTs)))))
+    (bytesOf "1 1 0 0 0 0 3300 1 32\n2 10 0 3 1500 8400 3300 1 97\nend 2 1 45\n")
     ∷ []
 
 abbrev pub EveryRequest : Type 0

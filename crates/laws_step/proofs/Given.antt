@@ -1,5 +1,5 @@
 -- Each refusal is given exactly when one of its rows says so.
-use Prim.Native.Nat.{ℕ, _+_}
+use Prim.Native.Nat.{ℕ, _+_, _<_}
 use mathlib.Core.Path.{_≡_, refl, sym, ap, subst, _∙_}
 use mathlib.Core.Bool.{Bool, true, false, not, _&&_, false≢true}
 use mathlib.Core.Logic.{_≢_, _↔_, _⊎_, inl, inr, ⊎-map}
@@ -18,7 +18,7 @@ use Rattle.state_parts.specs.declared.state.State.{State}
 use Rattle.state_parts.specs.declared.state.Model.{Model}
 use Rattle.state_parts.specs.declared.state.Model.the-variants.{Off, On}
 use Rattle.log_event.specs.declared.Event.{Event}
-use Rattle.log_event.specs.declared.Event.the-variants.{PowerOn, Set, Write, TakeFlags, Observe, Service, Reset, PowerOnResistors, WriteRun, ReadFlags}
+use Rattle.log_event.specs.declared.Event.the-variants.{PowerOn, Set, Write, TakeFlags, Observe, Service, Reset, PowerOnResistors, ObserveTwo, WriteRun, ReadFlags}
 use Rattle.log_raw.specs.Raw.{byteOf, hasSpelling}
 use Rattle.log_raw.specs.Struct.{rawOf}
 use Rattle.log_raw.specs.declared.RawBytes.{RawBytes}
@@ -26,9 +26,9 @@ use Rattle.report_registers.specs.Reads.{flagRegister}
 use Rattle.state_runs.specs.Runs.{halves, illegalFrequency, badRun, writtenRun, writeRunOf}
 use Rattle.state_settings.specs.Ranges.{lastSetting, knownSetting, mayHold}
 use Rattle.state_valid.specs.Holds.{stateOk}
-use Rattle.step_turns.specs.Ranges.{profileInRange, sampleInRange, resistorsInRange}
+use Rattle.step_turns.specs.Ranges.{profileInRange, twoInRange, resistorsInRange}
 use Rattle.step_turns.specs.Coded.{codedOf}
-use Rattle.step_turns.specs.Turns.{heldProfile, heldSample, opensWith, turnOf}
+use Rattle.step_turns.specs.Turns.{heldProfile, heldSample, opensWith, observesWith, turnOf}
 use Rattle.step_turns.specs.declared.later.Later.the-variants as later
 use Rattle.step_turns.specs.declared.turn.Turn.{Turn}
 use Rattle.step_turns.specs.declared.turn.Turn.the-variants.{Opens, Follows, OpensOutside, FollowsOutside}
@@ -39,11 +39,11 @@ use Rattle.step_kinds.specs.Finish.{finishOf}
 use Rattle.step_kinds.specs.Plain.{afterWrite, setOf, writtenOf, afterRun, runFrom, readFlagsOf}
 use Rattle.step_event.specs.Steps.{observeOf, followedOf, movedOf, firstOf, changeOf, closedBy, turnedBy, stepOf}
 use Rattle.laws_step.specs.Ranged.{Among}
-use Rattle.laws_step.specs.Rows.{ResistorsIn, by-codes, by-resistors, Row, bad-field, bad-profile, bad-resistors, bad-byte, bad-sample, no-spelling, not-powered, too-far, no-setting, bad-value, run-value, no-address, run-outside, no-flags, bad-frequency, run-frequency, run-half}
+use Rattle.laws_step.specs.Rows.{ResistorsIn, PowersOn, by-codes, by-resistors, Row, bad-field, bad-profile, bad-resistors, bad-byte, bad-sample, bad-two, no-spelling, not-powered, too-far, two-too-far, no-setting, bad-value, run-value, no-address, run-outside, no-flags, bad-frequency, run-frequency, run-half}
 use Rattle.laws_step.specs.Theorems.{EachGiven, NumberKnown}
 use Rattle.laws_step.specs.RunRows.{Spelled, InMap, HasHalf, NoFrequency, Unheld}
 use Rattle.laws_step.proofs.RunRows.{spelled-is, inside-is, half-is, frequency-is, unheld-is, flags-at}
-use Rattle.laws_step.proofs.InRanges.{outside, refuted, failed, among, profile-in, resistors-in, sample-in, value-in, bad-frequency-is}
+use Rattle.laws_step.proofs.InRanges.{outside, refuted, failed, among, profile-in, resistors-in, two-in, twice-in, value-in, bad-frequency-is}
 
 -- a change is an accepted event's, or a row gives its number
 abbrev Says : Model → Event → Told Changed → Type 0
@@ -99,12 +99,14 @@ module _ (s : State) (ok : stateOk s ≡ true) where
           inr (subst (λ (n : ℕ). Row 11 (On s) (Write n byte)) (sym (eqb-true address 0x16 c))
           (bad-frequency s byte ok (leb-true byte 255 (not-false (leb byte 255) b)) (bad-frequency-is (s .profile) byte .0 d)))
 
-  observes : (x : SpelledSample) (t : Bool) → sampleInRange x ≡ t → Says (On s) (Observe x) (movedOf s (pick t (Follows (later.Observe (heldSample x))) FollowsOutside))
+  -- an observation, of one value or two
+  observes : (e : Event) (x : SpelledSample) (second : ℕ) (t : Bool) → (t ≡ false → Row 5 (On s) e) → (t ≡ true → 3600000 < elapsedOf (s .sample .stamp) (x .stamp) → Row 7 (On s) e)
+      → Says (On s) e (movedOf s (pick t (Follows (later.Observe (heldSample x second))) FollowsOutside))
   unfolding movedOf followedOf observeOf
-  observes x true h =
+  observes e x second true bad far =
       let ms = elapsedOf (s .sample .stamp) (x .stamp) in
-      tests (On s) (Observe x) 7 (ltb 3600000 ms) _ (λ far. too-far s x ok (sample-in x .0 h) (ltb-true 3600000 ms far)) (λ _. inl refl)
-  observes x false h = inr (bad-sample s x (outside (sampleInRange x) (sample-in x) h))
+      tests (On s) e 7 (ltb 3600000 ms) _ (λ late. far refl (ltb-true 3600000 ms late)) (λ _. inl refl)
+  observes e x second false bad far = inr (bad refl)
 
   runs : (first : ℕ) (raw : RawBytes) → Says (On s) (WriteRun first raw) (runFrom s first (rawOf raw))
   unfolding runFrom writeRunOf
@@ -132,7 +134,12 @@ module _ (s : State) (ok : stateOk s ≡ true) where
   moves (Set number value) = sets number value
   moves (Write address byte) = writes address byte
   moves TakeFlags = inl refl
-  moves (Observe x) = observes x (sampleInRange x) refl
+  moves (Observe x) =
+      let t = twoInRange x (x .ts) in
+      observes (Observe x) x (x .ts) t (λ h. bad-sample s x (outside t (twice-in x) h)) (λ h far. too-far s x ok (twice-in x .0 h) far)
+  moves (ObserveTwo x) =
+      let t = twoInRange (x .sample) (x .second) in
+      observes (ObserveTwo x) (x .sample) (x .second) t (λ h. bad-two s x (outside t (two-in x) h)) (λ h far. two-too-far s x ok (two-in x .0 h) far)
   moves Service = inl refl
   moves Reset = inl refl
   moves (PowerOnResistors r) = solders (On s) (movedOf s) (λ q. refl) refl r
@@ -140,10 +147,13 @@ module _ (s : State) (ok : stateOk s ≡ true) where
   moves (ReadFlags address) = reads address
 
 -- 6 comes before an observation's 5
-not-yet : (x : SpelledSample) (t : Bool) → Says Off (Observe x) (firstOf (pick t (Follows (later.Observe (heldSample x))) FollowsOutside))
+six-first : (x : SpelledSample) (second : ℕ) (t : Bool) → answerNumber (firstOf (pick t (Follows (later.Observe (heldSample x second))) FollowsOutside)) ≡ 6
 unfolding firstOf
-not-yet x true = inr (not-powered (Observe x) (elim [ ]))
-not-yet x false = inr (not-powered (Observe x) (elim [ ]))
+six-first x second true = refl
+six-first x second false = refl
+
+not-yet : (e : Event) (x : SpelledSample) (second : ℕ) → ¬ PowersOn e → Says Off e (firstOf (observesWith x second))
+not-yet e x second other = inr (subst (λ (n : ℕ). Row n Off e) (sym (six-first x second (twoInRange x second))) (not-powered e other))
 
 first : (e : Event) → Says Off e (firstOf (turnOf e))
 unfolding firstOf turnOf
@@ -151,7 +161,8 @@ first (PowerOn p) = powers Off firstOf (λ q. refl) refl p
 first (Set number value) = inr (not-powered (Set number value) (elim [ ]))
 first (Write address byte) = inr (not-powered (Write address byte) (elim [ ]))
 first TakeFlags = inr (not-powered TakeFlags (elim [ ]))
-first (Observe x) = not-yet x (sampleInRange x)
+first (Observe x) = not-yet (Observe x) x (x .ts) (elim [ ])
+first (ObserveTwo x) = not-yet (ObserveTwo x) (x .sample) (x .second) (elim [ ])
 first Service = inr (not-powered Service (elim [ ]))
 first Reset = inr (not-powered Reset (elim [ ]))
 first (PowerOnResistors r) = solders Off firstOf (λ q. refl) refl r
@@ -197,22 +208,21 @@ rows-give (bad-resistors Off r out) = simp (outside-range r out)
 rows-give (bad-resistors (On s) r out) = by-test (stateOk s) 5 (movedOf s (turnOf (PowerOnResistors r))) (simp (outside-range r out))
 rows-give (bad-byte s address byte known large) =
     by-test (stateOk s) 5 (writtenOf s address byte) (simp (then-byte s address byte (among address 0x15 0x1C .1 known) (lt-leb byte 255 large)))
-rows-give (bad-sample s x out) = by-test (stateOk s) 5 (movedOf s (turnOf (Observe x))) (simp (failed (sampleInRange x) (sample-in x) out))
+rows-give (bad-sample s x out) = by-test (stateOk s) 5 (movedOf s (turnOf (Observe x))) (simp (failed (twoInRange x (x .ts)) (twice-in x) out))
+rows-give (bad-two s x out) = by-test (stateOk s) 5 (movedOf s (turnOf (ObserveTwo x))) (simp (failed (twoInRange (x .sample) (x .second)) (two-in x) out))
 rows-give (not-powered (PowerOn p) other) = absurd (other (by-codes p))
 rows-give (not-powered (Set number value) other) = refl
 rows-give (not-powered (Write address byte) other) = refl
 rows-give (not-powered TakeFlags other) = refl
-rows-give (not-powered (Observe x) other) = either (sampleInRange x)
-  where
-    either : (t : Bool) → answerNumber (firstOf (pick t (Follows (later.Observe (heldSample x))) FollowsOutside)) ≡ 6
-    either true = refl
-    either false = refl
+rows-give (not-powered (Observe x) other) = six-first x (x .ts) (twoInRange x (x .ts))
+rows-give (not-powered (ObserveTwo x) other) = six-first (x .sample) (x .second) (twoInRange (x .sample) (x .second))
 rows-give (not-powered Service other) = refl
 rows-give (not-powered Reset other) = refl
 rows-give (not-powered (PowerOnResistors r) other) = absurd (other (by-resistors r))
 rows-give (not-powered (WriteRun address raw) other) = refl
 rows-give (not-powered (ReadFlags address) other) = refl
-rows-give (too-far s x ok fits far) = simp (ok, sample-in x .1 fits, lt-ltb 3600000 (elapsedOf (s .sample .stamp) (x .stamp)) far)
+rows-give (too-far s x ok fits far) = simp (ok, twice-in x .1 fits, lt-ltb 3600000 (elapsedOf (s .sample .stamp) (x .stamp)) far)
+rows-give (two-too-far s x ok fits far) = simp (ok, two-in x .1 fits, lt-ltb 3600000 (elapsedOf (s .sample .stamp) (x .sample .stamp)) far)
 rows-give (no-setting s number value ok out) = simp (ok, failed (knownSetting (s .profile) number) (among number 1 lastSetting) out)
 rows-give (bad-value s number value ok known out) =
     simp (ok, among number 1 lastSetting .1 known, failed (mayHold (s .profile) number value) (value-in (s .profile) number value known) out)
@@ -254,8 +264,10 @@ known (bad-profile m p out) = inl (omega arith, omega arith)
 known (bad-resistors m r out) = inl (omega arith, omega arith)
 known (bad-byte s address byte among large) = inl (omega arith, omega arith)
 known (bad-sample s x out) = inl (omega arith, omega arith)
+known (bad-two s x out) = inl (omega arith, omega arith)
 known (not-powered e other) = inl (omega arith, omega arith)
 known (too-far s x ok fits far) = inl (omega arith, omega arith)
+known (two-too-far s x ok fits far) = inl (omega arith, omega arith)
 known (no-setting s number value ok out) = inl (omega arith, omega arith)
 known (bad-value s number value ok among out) = inl (omega arith, omega arith)
 known (no-address s address byte ok out) = inl (omega arith, omega arith)

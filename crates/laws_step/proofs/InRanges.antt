@@ -13,13 +13,14 @@ use Rattle.state_table.specs.Rows.{digitOf, fsw, frequencyOk}
 use Rattle.log_event.specs.declared.spelled.SpelledProfile.{SpelledProfile}
 use Rattle.log_event.specs.declared.spelled.SpelledResistors.{SpelledResistors}
 use Rattle.log_event.specs.declared.spelled.SpelledSample.{SpelledSample}
+use Rattle.log_event.specs.declared.spelled.SpelledTwo.{SpelledTwo}
 use Rattle.state_parts.specs.declared.profile.Profile.{Profile}
 use Rattle.state_settings.specs.Ranges.{lastSetting, rangeOf, knownSetting, mayHold}
 use Rattle.step_pins.proofs.Pins.{pin-table}
-use Rattle.step_turns.specs.Ranges.{profileInRange, sampleInRange, resistorsInRange}
+use Rattle.step_turns.specs.Ranges.{profileInRange, sampleInRange, twoInRange, resistorsInRange}
 use Rattle.step_turns.specs.Coded.{codedOf}
 use Rattle.laws_step.specs.Ranged.{Among, ValueIn}
-use Rattle.laws_step.specs.Rows.{ProfileIn, ResistorsIn, SampleIn}
+use Rattle.laws_step.specs.Rows.{ProfileIn, ResistorsIn, SampleIn, TwoIn}
 
 -- a test that fails, and the statement that it stands for
 pub outside : {P : Type 0} (t : Bool) → (t ≡ true) ↔ P → t ≡ false → ¬ P
@@ -106,6 +107,21 @@ sample-in x = (
   λ k.
       simp (and-iff, leb-iff, leZ-iff) (((((k .input, k .pack), k .ibat .0), k .ibat .1), k .ts), k .bits),
 )
+
+pub two-in : (t : SpelledTwo) → (twoInRange (t .sample) (t .second) ≡ true) ↔ TwoIn t
+unfolding twoInRange
+two-in t = (
+  λ e.
+      let k = and-iff (sampleInRange (t .sample)) (leb (t .second) 100000) .0 e in
+      record { sample = sample-in (t .sample) .0 (k .0); second = leb-iff (t .second) 100000 .0 (k .1) },
+  λ k. and-iff (sampleInRange (t .sample)) (leb (t .second) 100000) .1 (sample-in (t .sample) .1 (k .sample), leb-iff (t .second) 100000 .1 (k .second)),
+)
+
+-- of two equal values the second asks nothing more
+pub twice-in : (x : SpelledSample) → (twoInRange x (x .ts) ≡ true) ↔ SampleIn x
+twice-in x =
+    let twice : SpelledTwo = record { sample = x; second = x .ts } in
+    (λ e. two-in twice .0 e .sample, λ k. two-in twice .1 (record { sample = k; second = k .ts }))
 
 pub value-in : (p : Profile) (number value : ℕ) → Among number 1 lastSetting → (mayHold p number value ≡ true) ↔ ValueIn p number value
 unfolding mayHold

@@ -3,5 +3,6 @@ pub mod InRanges
 mod RunRows
 pub mod Given
 pub mod Powered
+pub mod Observed
 pub mod Sums
 pub mod TakenFlags

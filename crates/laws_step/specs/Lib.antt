@@ -4,3 +4,4 @@ pub mod RunRows
 pub mod Rows
 pub mod Theorems
 pub mod Powered
+pub mod Observed

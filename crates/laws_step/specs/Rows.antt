@@ -13,10 +13,11 @@ use Rattle.state_parts.specs.declared.state.Model.{Model}
 use Rattle.state_parts.specs.declared.state.Model.the-variants.{Off, On}
 use Rattle.log_event.specs.declared.Event.{Event}
 use Rattle.log_raw.specs.declared.RawBytes.{RawBytes}
-use Rattle.log_event.specs.declared.Event.the-variants.{PowerOn, Set, Write, Observe, PowerOnResistors, WriteRun, ReadFlags}
+use Rattle.log_event.specs.declared.Event.the-variants.{PowerOn, Set, Write, Observe, PowerOnResistors, ObserveTwo, WriteRun, ReadFlags}
 use Rattle.log_event.specs.declared.spelled.SpelledProfile.{SpelledProfile}
 use Rattle.log_event.specs.declared.spelled.SpelledResistors.{SpelledResistors}
 use Rattle.log_event.specs.declared.spelled.SpelledSample.{SpelledSample}
+use Rattle.log_event.specs.declared.spelled.SpelledTwo.{SpelledTwo}
 use Rattle.state_table.specs.Rows.{digitOf, fsw}
 use Rattle.state_settings.specs.Ranges.{lastSetting}
 use Rattle.state_valid.specs.Holds.{stateOk}
@@ -55,6 +56,11 @@ pub record SampleIn (x : SpelledSample) : Type 0 where
   pub ts : x .ts ≤ 100000
   pub bits : x .bits ≤ 63
 
+-- 02, R-7: "Kind 10 is kind 5 with the second value right after the first", a TS too
+pub record TwoIn (t : SpelledTwo) : Type 0 where
+  pub sample : SampleIn (t .sample)
+  pub second : t .second ≤ 100000
+
 -- "a power-on's" kinds
 pub data PowersOn : Event → Type 0 where
   by-codes : (p : SpelledProfile) → PowersOn (PowerOn p)
@@ -67,12 +73,14 @@ pub data Row : ℕ → Model → Event → Type 0 where
   bad-resistors : (m : Model) (r : SpelledResistors) → ¬ ResistorsIn r → Row 5 m (PowerOnResistors r)
   bad-byte : (s : State) (address byte : ℕ) → Among address 0x15 0x1C → 255 < byte → Row 5 (On s) (Write address byte)
   bad-sample : (s : State) (x : SpelledSample) → ¬ SampleIn x → Row 5 (On s) (Observe x)
+  bad-two : (s : State) (t : SpelledTwo) → ¬ TwoIn t → Row 5 (On s) (ObserveTwo t)
   -- 02, R-3: "has no spelling: the writer gives 5, and so does the model, after 6"
   no-spelling : (s : State) (first : ℕ) (raw : RawBytes) → ¬ Spelled raw → Row 5 (On s) (WriteRun first raw)
   -- 6: "any kind but a power-on's, before a power-on"
   not-powered : (e : Event) → ¬ PowersOn e → Row 6 Off e
   -- 7: "stamp more than 3,600,000 ms ahead"
   too-far : (s : State) (x : SpelledSample) → stateOk s ≡ true → SampleIn x → 3600000 < elapsedOf (s .sample .stamp) (x .stamp) → Row 7 (On s) (Observe x)
+  two-too-far : (s : State) (t : SpelledTwo) → stateOk s ≡ true → TwoIn t → 3600000 < elapsedOf (s .sample .stamp) (t .sample .stamp) → Row 7 (On s) (ObserveTwo t)
   -- 8: "setting number not 1-14"
   no-setting : (s : State) (number value : ℕ) → stateOk s ≡ true → ¬ Among number 1 lastSetting → Row 8 (On s) (Set number value)
   -- 9: "setting value outside its range or off its step"

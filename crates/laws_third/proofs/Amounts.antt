@@ -10,7 +10,7 @@ use Rattle.base.specs.Pick.{pick}
 use Rattle.base.proofs.Span.{tested}
 use Rattle.state_parts.specs.Pins.{ichgOf}
 use Rattle.state_parts.specs.declared.band.Band.{Band}
-use Rattle.state_parts.specs.declared.band.Band.the-variants.{Normal, Cold, Cool, Warm, Hot}
+use Rattle.state_parts.specs.declared.band.Band.the-variants.{Normal, Cold, Cool, Warm, Hot, Mixed}
 use Rattle.state_parts.specs.declared.profile.Profile.{Profile}
 use Rattle.state_parts.specs.declared.settings.Settings.{Settings}
 use Rattle.settle_bands.specs.Effect.{coolShare, warmShare}
@@ -78,6 +78,7 @@ share-least Cold r h = omega arith
 share-least Cool r h = leb-true 20 _ (tested (λ (k : ℕ). leb 20 (coolShare (profileOf r) k)) 1 3 (fieldAt jeitaIsetc r) refl (some (fieldAt jeitaIsetc r) h) (omega (arith, small jeitaIsetc (omega arith) r)))
 share-least Warm r h = leb-true 20 _ (tested (λ (k : ℕ). leb 20 (warmShare (profileOf r) k)) 0 2 (fieldAt jeitaIseth r) refl (omega arith) (omega (arith, small jeitaIseth (omega arith) r)))
 share-least Hot r h = omega arith
+share-least Mixed r h = omega arith
 
 pub share-most : (b : Band) (r : Run) → shareIn b r ≤ 100
 share-most Normal r = omega arith
@@ -85,6 +86,7 @@ share-most Cold r = omega arith
 share-most Cool r = leb-true _ 100 (tested (λ (k : ℕ). leb (coolShare (profileOf r) k) 100) 0 4 (fieldAt jeitaIsetc r) refl (omega arith) (omega (arith, small jeitaIsetc (omega arith) r)))
 share-most Warm r = leb-true _ 100 (tested (λ (k : ℕ). leb (warmShare (profileOf r) k) 100) 0 2 (fieldAt jeitaIseth r) refl (omega arith) (omega (arith, small jeitaIseth (omega arith) r)))
 share-most Hot r = omega arith
+share-most Mixed r = omega arith
 
 -- a share of the lower of two
 pub some-share : (a b share : ℕ) → 40 ≤ a → 40 ≤ b → 20 ≤ share → 0 < min a b * share / 100

@@ -1,108 +1,88 @@
--- One band holds at each moment, the account's; and what the account judges by it means what the demand says of it.
+-- One band of the pack holds at each moment, the account's; and what the account judges by it means what the demand says of it.
 use Prim.Native.Nat.{_+_, _*_, _-_, _%_, _≤_, _<_}
 use mathlib.Core.Path.{_≡_, refl, sym, subst, _∙_}
 use mathlib.Core.Logic.{inl, inr}
 use mathlib.Core.Bool.{Bool, true, false, _&&_, false≢true}
-use lib.Dec.{leb, eqb}
-use Rattle.base.specs.Pick.{pick}
+use lib.Dec.{leb}
 use Rattle.base.specs.Units.{belowShare}
 use Rattle.base.specs.Volts.{millivoltsOf}
 use Rattle.state_parts.specs.declared.band.Band.{Band}
-use Rattle.state_parts.specs.declared.band.Band.the-variants.{Normal, Cold, Cool, Warm, Hot}
-use Rattle.state_table.specs.Rows.{enTs, enJeita, tsTh1, tsTh2, tsTh3, tsTh5, jeitaIsetc, jeitaVset}
-use Rattle.settle_bands.specs.Thresholds.{th1At, th2At, th3At, th5At}
+use Rattle.state_parts.specs.declared.band.Band.the-variants.{Normal, Cold, Cool, Warm, Hot, Mixed}
+use Rattle.state_parts.specs.declared.band.TsBand.{TsBand}
+use Rattle.state_parts.specs.declared.band.TsBand.the-variants as ts
+use Rattle.state_table.specs.Rows.{jeitaIsetc, jeitaVset}
+use Rattle.settle_bands.specs.Joined.{either, firstJoined, joinedOf}
 use Rattle.settle_levels.specs.Voltage.{rechargeShareAt}
 use Rattle.laws_account.specs.History.{Run}
 use Rattle.laws_account.specs.Held.{profileOf, sampleOf, fieldAt}
 use Rattle.laws_account.specs.Valued.{settingOf}
-use Rattle.laws_account.specs.Judged.{vbat, bandAt, suspendedIn, suspended, chargeVoltage, tapering, rechargeDue}
+use Rattle.laws_account.specs.Judged.{vbat, Thermistor, firstTs, secondTs, tsBandAt, bandAt, suspendedIn, suspended, chargeVoltage, tapering, rechargeDue}
 use Rattle.laws_account.specs.Refused.{Accepted}
-use Rattle.laws_third.specs.Banded.{Unjudged, FromTh1, ToTh5, FromTh2, ToTh3, InBand, ByBand, OneBand, SuspendingIn, Suspending, chargeTo, Tapering, BelowRecharge, AtVoltage}
-use Rattle.laws_third.proofs.Means.{Means, leb-means, ltb-means, eqb-means, and-means, re-means}
+use Rattle.laws_account.proofs.Judging.{joined-table}
+use Rattle.laws_third.specs.Banded.{InTsBand, Either, CoolBesideWarm, InBand, ByBand, OneBand, SuspendingIn, Suspending, chargeTo, Tapering, BelowRecharge, AtVoltage}
+use Rattle.laws_third.proofs.Means.{Means, leb-means, ltb-means, eqb-means, and-means, or-means, re-means}
+use Rattle.laws_third.proofs.TsBands.{no, falls, ts-band-holds, only-ts-band, is-means}
 use Rattle.laws_third.proofs.Packs.{cut-plain, base-plain}
 
--- the band by its tests
-abbrev chosen : Bool → Bool → Bool → Bool → Bool → Band
-chosen off cold hot cool warm = pick off Normal (pick cold Cold (pick hot Hot (pick cool Cool (pick warm Warm Normal))))
-
--- a test that fails, and what it means
-no : {b : Bool} {A : Type 0} → Means b A → b ≡ false → A → ⊥
-no m e a = false≢true (sym e ∙ m .test a)
-
-fails : {A : Type 0} (b : Bool) → Means b A → (A → ⊥) → b ≡ false
-fails true m n = absurd (n (m .fact refl))
-fails false m n = refl
-
-falls : {b : Bool} {A : Type 0} → Means b A → (A → ⊥) → b ≡ false
-falls {b} m n = fails b m n
-
 module _ (m : Run) where
-  off : Bool
-  off = eqb (fieldAt enTs m) 0
+  -- whether one of the two thermistors is in a band
+  found : TsBand → Bool
+  found b = either b (tsBandAt firstTs m) (tsBandAt secondTs m)
 
-  off-means : Means off (Unjudged m)
-  unfolding off
-  off-means = eqb-means (fieldAt enTs m) 0
+  found-means : (b : TsBand) → Means (found b) (Either b m)
+  unfolding found either
+  found-means b = or-means (is-means b firstTs m) (is-means b secondTs m)
 
-  cold : Bool
-  cold = leb (th1At (profileOf m) (fieldAt tsTh1 m)) (sampleOf m .ts)
+  mixed-means : Means (found ts.Cool && found ts.Warm) (CoolBesideWarm m)
+  mixed-means = and-means (found-means ts.Cool) (found-means ts.Warm)
 
-  cold-means : Means cold (FromTh1 m)
-  unfolding cold
-  cold-means = leb-means (th1At (profileOf m) (fieldAt tsTh1 m)) (sampleOf m .ts)
+  band-by : bandAt m ≡ firstJoined (found ts.Cold) (found ts.Hot) (found ts.Cool && found ts.Warm) (found ts.Cool) (found ts.Warm)
+  unfolding bandAt joinedOf found
+  band-by = sym (joined-table (tsBandAt firstTs m) (tsBandAt secondTs m))
 
-  hot : Bool
-  hot = leb (sampleOf m .ts) (th5At (profileOf m) (fieldAt tsTh5 m))
-
-  hot-means : Means hot (ToTh5 m)
-  unfolding hot
-  hot-means = leb-means (sampleOf m .ts) (th5At (profileOf m) (fieldAt tsTh5 m))
-
-  cool : Bool
-  cool = eqb (fieldAt enJeita m) 1 && leb (th2At (profileOf m) (fieldAt tsTh2 m)) (sampleOf m .ts)
-
-  cool-means : Means cool (FromTh2 m)
-  unfolding cool
-  cool-means = and-means (eqb-means (fieldAt enJeita m) 1) (leb-means (th2At (profileOf m) (fieldAt tsTh2 m)) (sampleOf m .ts))
-
-  warm : Bool
-  warm = eqb (fieldAt enJeita m) 1 && leb (sampleOf m .ts) (th3At (profileOf m) (fieldAt tsTh3 m))
-
-  warm-means : Means warm (ToTh3 m)
-  unfolding warm
-  warm-means = and-means (eqb-means (fieldAt enJeita m) 1) (leb-means (sampleOf m .ts) (th3At (profileOf m) (fieldAt tsTh3 m)))
-
-  band-by : bandAt m ≡ chosen off cold hot cool warm
-  unfolding bandAt off cold hot cool warm
-  band-by = refl
+  -- a thermistor that is in no other band is normal
+  left : (k : Thermistor) (b : TsBand) → InTsBand b k m → (InTsBand ts.Cold k m → ⊥) → (InTsBand ts.Hot k m → ⊥) → (InTsBand ts.Cool k m → ⊥) → (InTsBand ts.Warm k m → ⊥)
+      → InTsBand ts.Normal k m
+  left k ts.Normal h cold hot cool warm = h
+  left k ts.Cold h cold hot cool warm = absurd (cold h)
+  left k ts.Hot h cold hot cool warm = absurd (hot h)
+  left k ts.Cool h cold hot cool warm = absurd (cool h)
+  left k ts.Warm h cold hot cool warm = absurd (warm h)
 
   -- the band that the tests choose holds
-  holds : (o c h l w : Bool) → off ≡ o → cold ≡ c → hot ≡ h → cool ≡ l → warm ≡ w → InBand (chosen o c h l w) m
-  holds true c h l w eo ec eh el ew = inl (off-means .fact eo)
-  holds false true h l w eo ec eh el ew = (no off-means eo, cold-means .fact ec)
-  holds false false true l w eo ec eh el ew = (no off-means eo, no cold-means ec, hot-means .fact eh)
-  holds false false false true w eo ec eh el ew = (no off-means eo, no cold-means ec, no hot-means eh, cool-means .fact el)
-  holds false false false false true eo ec eh el ew = (no off-means eo, no cold-means ec, no hot-means eh, no cool-means el, warm-means .fact ew)
-  holds false false false false false eo ec eh el ew = inr (no cold-means ec, no hot-means eh, no cool-means el, no warm-means ew)
+  holds : (c h x l w : Bool) → found ts.Cold ≡ c → found ts.Hot ≡ h → (found ts.Cool && found ts.Warm) ≡ x → found ts.Cool ≡ l → found ts.Warm ≡ w
+      → InBand (firstJoined c h x l w) m
+  holds true h x l w ec eh ex el ew = found-means ts.Cold .fact ec
+  holds false true x l w ec eh ex el ew = (no (found-means ts.Cold) ec, found-means ts.Hot .fact eh)
+  holds false false true l w ec eh ex el ew = (no (found-means ts.Cold) ec, no (found-means ts.Hot) eh, mixed-means .fact ex)
+  holds false false false true w ec eh ex el ew = (no (found-means ts.Cold) ec, no (found-means ts.Hot) eh, no mixed-means ex, found-means ts.Cool .fact el)
+  holds false false false false true ec eh ex el ew = (no (found-means ts.Cold) ec, no (found-means ts.Hot) eh, no mixed-means ex, found-means ts.Warm .fact ew)
+  holds false false false false false ec eh ex el ew =
+      let cold = no (found-means ts.Cold) ec in
+      let hot = no (found-means ts.Hot) eh in
+      let cool = no (found-means ts.Cool) el in
+      let warm = no (found-means ts.Warm) ew in (
+        left firstTs (tsBandAt firstTs m) (ts-band-holds firstTs m) (λ h. cold (inl h)) (λ h. hot (inl h)) (λ h. cool (inl h)) (λ h. warm (inl h)),
+        left secondTs (tsBandAt secondTs m) (ts-band-holds secondTs m) (λ h. cold (inr h)) (λ h. hot (inr h)) (λ h. cool (inr h)) (λ h. warm (inr h)),
+      )
 
   pub band-holds : InBand (bandAt m) m
-  band-holds = subst (λ b. InBand b m) (sym band-by) (holds off cold hot cool warm refl refl refl refl refl)
+  band-holds = subst (λ b. InBand b m) (sym band-by) (holds (found ts.Cold) (found ts.Hot) (found ts.Cool && found ts.Warm) (found ts.Cool) (found ts.Warm) refl refl refl refl refl)
 
-  plain : (o : Bool) → off ≡ o → (FromTh1 m → ⊥) × (ToTh5 m → ⊥) × (FromTh2 m → ⊥) × (ToTh3 m → ⊥) → chosen off cold hot cool warm ≡ Normal
-  plain true e h = rw e
-  plain false e h = rw (e, falls cold-means (h .0), falls hot-means (h .1), falls cool-means (h .2), falls warm-means (h .3))
+  both-normal : tsBandAt firstTs m ≡ ts.Normal → tsBandAt secondTs m ≡ ts.Normal → bandAt m ≡ Normal
+  unfolding bandAt
+  both-normal a b = rw (a, b)
 
   -- and a band that holds is the one that they choose
-  only : (b : Band) → InBand b m → chosen off cold hot cool warm ≡ b
-  only Cold h = rw (falls off-means (h .0), cold-means .test (h .1))
-  only Hot h = rw (falls off-means (h .0), falls cold-means (h .1), hot-means .test (h .2))
-  only Cool h = rw (falls off-means (h .0), falls cold-means (h .1), falls hot-means (h .2), cool-means .test (h .3))
-  only Warm h = rw (falls off-means (h .0), falls cold-means (h .1), falls hot-means (h .2), falls cool-means (h .3), warm-means .test (h .4))
-  only Normal (inl h) = rw (off-means .test h)
-  only Normal (inr h) = plain off refl h
-
   pub only-band : (b : Band) → InBand b m → bandAt m ≡ b
-  only-band b h = band-by ∙ only b h
+  only-band Cold h = band-by ∙ rw (found-means ts.Cold .test h)
+  only-band Hot h = band-by ∙ rw (falls (found-means ts.Cold) (h .0), found-means ts.Hot .test (h .1))
+  only-band Mixed h = band-by ∙ rw (falls (found-means ts.Cold) (h .0), falls (found-means ts.Hot) (h .1), mixed-means .test (h .2))
+  only-band Cool h = band-by ∙ rw (falls (found-means ts.Cold) (h .0), falls (found-means ts.Hot) (h .1), falls mixed-means (h .2), found-means ts.Cool .test (h .3))
+  only-band Warm h =
+      let uncool = falls (found-means ts.Cool) (λ c. h .2 (c, h .3)) in
+      band-by ∙ rw (falls (found-means ts.Cold) (h .0), falls (found-means ts.Hot) (h .1), uncool, found-means ts.Warm .test (h .3))
+  only-band Normal h = both-normal (only-ts-band firstTs m ts.Normal (h .0)) (only-ts-band secondTs m ts.Normal (h .1))
 
 pub one-band : OneBand
 one-band m b = (only-band m b, λ e. subst (λ (b : Band). InBand b m) e (band-holds m))
@@ -118,6 +98,7 @@ suspended-in Cold r = record { fact = λ t. tt; test = λ h. refl }
 suspended-in Cool r = eqb-means (fieldAt jeitaIsetc r) 0
 suspended-in Warm r = eqb-means (fieldAt jeitaVset r) 0
 suspended-in Hot r = record { fact = λ t. tt; test = λ h. refl }
+suspended-in Mixed r = record { fact = λ t. tt; test = λ h. refl }
 
 pub suspended-means : (r : Run) → Means (suspended r) (Suspending r)
 unfolding suspended

@@ -3,13 +3,12 @@ use mathlib.Core.Path.{_≡_, refl, ap, _∙_}
 use mathlib.Core.Bool.{true}
 use mathlib.Core.List.{List, [], _∷_, _++_}
 use Rattle.state_parts.specs.declared.profile.Profile.{Profile}
-use Rattle.state_parts.specs.declared.sample.Sample.{Sample}
 use Rattle.log_event.specs.declared.Event.{Event}
 use Rattle.log_event.specs.declared.Event.the-variants as event
-use Rattle.log_event.specs.declared.spelled.SpelledSample.{SpelledSample}
 use Rattle.state_valid.specs.Holds.{profileOk, sampleOk}
-use Rattle.step_turns.specs.Ranges.{profileInRange, sampleInRange}
+use Rattle.step_turns.specs.Ranges.{profileInRange, sampleInRange, twoInRange}
 use Rattle.step_turns.specs.Begins.{byCodes}
+use Rattle.step_turns.specs.Sampled.{bySample}
 use Rattle.step_turns.specs.Turns.{turnOf}
 use Rattle.step_turns.specs.Promises.{LaterFits}
 use Rattle.step_turns.specs.declared.later.Later.{Later}
@@ -19,15 +18,11 @@ use Rattle.laws_account.specs.History.{Run, powered, _▸_}
 use Rattle.laws_account.specs.Refused.{Past, none, some, refusalIn, nextBy, nextOf, pastOf}
 use Rattle.laws_third.specs.Laws.{EveryRunLeft}
 
--- an observation with the numbers that are held
-abbrev spelledSample : Sample → SpelledSample
-spelledSample x = record { stamp = x .stamp; input = x .input; pack = x .pack; ibat = x .ibat; ts = x .ts; bits = x .bits }
-
 abbrev eventFor : Later → Event
 eventFor (Set number value) = event.Set number value
 eventFor (Write address byte) = event.Write address byte
 eventFor TakeFlags = event.TakeFlags
-eventFor (Observe x) = event.Observe (spelledSample x)
+eventFor (Observe x) = event.ObserveTwo (record { sample = bySample x; second = x .secondts })
 eventFor Service = event.Service
 eventFor Reset = event.Reset
 eventFor (WriteRun first raw) = event.WriteRun first raw
@@ -38,7 +33,7 @@ unfolding turnOf profileInRange profileOk
 opens p h = rw h
 
 follows : (e : Later) → LaterFits e → turnOf (eventFor e) ≡ Follows e
-unfolding turnOf sampleInRange sampleOk
+unfolding turnOf sampleInRange twoInRange sampleOk
 follows (Set number value) h = refl
 follows (Write address byte) h = refl
 follows TakeFlags h = refl

@@ -2,6 +2,7 @@
 pub mod Means
 pub mod Positions
 pub mod Packs
+pub mod TsBands
 pub mod Bands
 pub mod Crossings
 pub mod Charges

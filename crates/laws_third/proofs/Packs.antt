@@ -14,7 +14,7 @@ use Rattle.base.proofs.Packs.{pack-exact}
 use Rattle.base.proofs.Table.{table-most}
 use Rattle.state_parts.specs.Pins.{vchgTable, vchgOf}
 use Rattle.state_parts.specs.declared.band.Band.{Band}
-use Rattle.state_parts.specs.declared.band.Band.the-variants.{Normal, Cold, Cool, Warm, Hot}
+use Rattle.state_parts.specs.declared.band.Band.the-variants.{Normal, Cold, Cool, Warm, Hot, Mixed}
 use Rattle.state_parts.specs.declared.profile.Profile.{Profile}
 use Rattle.state_table.specs.Rows.{jeitaVset}
 use Rattle.settle_levels.proofs.Least.{highest-cut}
@@ -52,6 +52,7 @@ cut-most Cold r = omega arith
 cut-most Cool r = omega arith
 cut-most Warm r = omega (arith, highest-cut (profileOf r) (fieldAt jeitaVset r))
 cut-most Hot r = omega arith
+cut-most Mixed r = omega arith
 
 either-most : (t : Bool) (a b : CellMv) → a .0 ≤ 45000 → b .0 ≤ 45000 → pick t a b .0 ≤ 45000
 either-most true a b h k = h

@@ -1,57 +1,79 @@
--- Demand 3, the temperature band: which one holds by the moment's own TS, and what goes by it.
+-- Demand 3, the temperature band: which one holds by the moment's own two TS values, and what goes by it.
 use Prim.Native.Nat.{ℕ, _+_, _*_, _-_, _%_, _≤_, _<_}
 use mathlib.Core.Path.{_≡_}
 use mathlib.Core.Logic.{_⊎_, _↔_}
 use Rattle.state_parts.specs.declared.band.Band.{Band}
-use Rattle.state_parts.specs.declared.band.Band.the-variants.{Normal, Cold, Cool, Warm, Hot}
+use Rattle.state_parts.specs.declared.band.Band.the-variants.{Normal, Cold, Cool, Warm, Hot, Mixed}
+use Rattle.state_parts.specs.declared.band.TsBand.{TsBand}
+use Rattle.state_parts.specs.declared.band.TsBand.the-variants as ts
 use Rattle.state_table.specs.Rows.{enTs, enJeita, tsTh1, tsTh2, tsTh3, tsTh5, jeitaIsetc, jeitaVset}
 use Rattle.settle_bands.specs.Thresholds.{th1At, th2At, th3At, th5At}
 use Rattle.settle_levels.specs.Voltage.{rechargeShareAt}
 use Rattle.laws_account.specs.History.{Run}
 use Rattle.laws_account.specs.Held.{profileOf, sampleOf, cellsOf, fieldAt}
 use Rattle.laws_account.specs.Valued.{settingOf}
-use Rattle.laws_account.specs.Judged.{bandAt, cutIn}
+use Rattle.laws_account.specs.Judged.{Thermistor, firstTs, secondTs, tsOf, tsBandAt, bandAt, cutIn}
 use Rattle.laws_third.specs.Crossed.{base}
 
 -- "EN_TS 0 normal; TS >= TH1 cold; TS <= TH5 hot; with EN_JEITA: TS >= TH2 cool; TS <= TH3 warm"
 abbrev pub Unjudged : Run → Type 0
 Unjudged m = fieldAt enTs m ≡ 0
 
-abbrev pub FromTh1 : Run → Type 0
-FromTh1 m = th1At (profileOf m) (fieldAt tsTh1 m) ≤ sampleOf m .ts
+abbrev pub FromTh1 : Thermistor → Run → Type 0
+FromTh1 k m = th1At (profileOf m) (fieldAt tsTh1 m) ≤ tsOf k (sampleOf m)
 
-abbrev pub ToTh5 : Run → Type 0
-ToTh5 m = sampleOf m .ts ≤ th5At (profileOf m) (fieldAt tsTh5 m)
+abbrev pub ToTh5 : Thermistor → Run → Type 0
+ToTh5 k m = tsOf k (sampleOf m) ≤ th5At (profileOf m) (fieldAt tsTh5 m)
 
-abbrev pub FromTh2 : Run → Type 0
-FromTh2 m = (fieldAt enJeita m ≡ 1) × (th2At (profileOf m) (fieldAt tsTh2 m) ≤ sampleOf m .ts)
+abbrev pub FromTh2 : Thermistor → Run → Type 0
+FromTh2 k m = (fieldAt enJeita m ≡ 1) × (th2At (profileOf m) (fieldAt tsTh2 m) ≤ tsOf k (sampleOf m))
 
-abbrev pub ToTh3 : Run → Type 0
-ToTh3 m = (fieldAt enJeita m ≡ 1) × (sampleOf m .ts ≤ th3At (profileOf m) (fieldAt tsTh3 m))
+abbrev pub ToTh3 : Thermistor → Run → Type 0
+ToTh3 k m = (fieldAt enJeita m ≡ 1) × (tsOf k (sampleOf m) ≤ th3At (profileOf m) (fieldAt tsTh3 m))
 
--- "Band, first that holds: ..; else normal.": each with what comes before it denied
+-- "Band, first that holds: ..; else normal.": of one thermistor, each with what comes before it denied
+abbrev pub InTsBand : TsBand → Thermistor → Run → Type 0
+InTsBand ts.Cold k m = (¬ Unjudged m) × FromTh1 k m
+InTsBand ts.Hot k m = (¬ Unjudged m) × (¬ FromTh1 k m) × ToTh5 k m
+InTsBand ts.Cool k m = (¬ Unjudged m) × (¬ FromTh1 k m) × (¬ ToTh5 k m) × FromTh2 k m
+InTsBand ts.Warm k m = (¬ Unjudged m) × (¬ FromTh1 k m) × (¬ ToTh5 k m) × (¬ FromTh2 k m) × ToTh3 k m
+InTsBand ts.Normal k m = Unjudged m ⊎ ((¬ FromTh1 k m) × (¬ ToTh5 k m) × (¬ FromTh2 k m) × (¬ ToTh3 k m))
+
+-- one band holds of each thermistor at each moment: the account's
+abbrev pub OneTsBand : Type 0
+OneTsBand = (k : Thermistor) (m : Run) (b : TsBand) → InTsBand b k m ↔ (tsBandAt k m ≡ b)
+
+-- 02, R-7: "If either is cold the band is cold, else if either is hot it is hot; cool beside warm counts as a new band, apart ..; otherwise the one that isn't normal decides."
+abbrev pub Either : TsBand → Run → Type 0
+Either b m = InTsBand b firstTs m ⊎ InTsBand b secondTs m
+
+abbrev pub CoolBesideWarm : Run → Type 0
+CoolBesideWarm m = Either ts.Cool m × Either ts.Warm m
+
 abbrev pub InBand : Band → Run → Type 0
-InBand Cold m = (¬ Unjudged m) × FromTh1 m
-InBand Hot m = (¬ Unjudged m) × (¬ FromTh1 m) × ToTh5 m
-InBand Cool m = (¬ Unjudged m) × (¬ FromTh1 m) × (¬ ToTh5 m) × FromTh2 m
-InBand Warm m = (¬ Unjudged m) × (¬ FromTh1 m) × (¬ ToTh5 m) × (¬ FromTh2 m) × ToTh3 m
-InBand Normal m = Unjudged m ⊎ ((¬ FromTh1 m) × (¬ ToTh5 m) × (¬ FromTh2 m) × (¬ ToTh3 m))
+InBand Cold m = Either ts.Cold m
+InBand Hot m = (¬ Either ts.Cold m) × Either ts.Hot m
+InBand Mixed m = (¬ Either ts.Cold m) × (¬ Either ts.Hot m) × CoolBesideWarm m
+InBand Cool m = (¬ Either ts.Cold m) × (¬ Either ts.Hot m) × (¬ CoolBesideWarm m) × Either ts.Cool m
+InBand Warm m = (¬ Either ts.Cold m) × (¬ Either ts.Hot m) × (¬ CoolBesideWarm m) × Either ts.Warm m
+InBand Normal m = InTsBand ts.Normal firstTs m × InTsBand ts.Normal secondTs m
 
 -- something said of the band that holds
 abbrev pub ByBand : (Band → Type 0) → Run → Type 0
 ByBand said m = (b : Band) × InBand b m × said b
 
--- one band holds at each moment: the account's
+-- one band of the pack holds at each moment: the account's
 abbrev pub OneBand : Type 0
 OneBand = (m : Run) (b : Band) → InBand b m ↔ (bandAt m ≡ b)
 
--- "6 suspended, cold, hot, cool with JEITA_ISETC 0, warm with JEITA_VSET 0"
+-- "6 suspended, cold, hot, cool with JEITA_ISETC 0, warm with JEITA_VSET 0"; 02, R-7: "a new band, apart, which suspends. .. Demand 3's suspending temperature includes it."
 abbrev pub SuspendingIn : Band → Run → Type 0
 SuspendingIn Normal m = ⊥
 SuspendingIn Cold m = Unit {0}
 SuspendingIn Cool m = fieldAt jeitaIsetc m ≡ 0
 SuspendingIn Warm m = fieldAt jeitaVset m ≡ 0
 SuspendingIn Hot m = Unit {0}
+SuspendingIn Mixed m = Unit {0}
 
 abbrev pub Suspending : Run → Type 0
 Suspending m = ByBand (λ b. SuspendingIn b m) m

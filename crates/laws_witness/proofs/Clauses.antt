@@ -5,21 +5,25 @@ use mathlib.Core.List.{List, [], _∷_}
 use mathlib.Core.Bool.{Bool, true, false, not, _&&_, true≢false}
 use lib.Dec.{leb, eqb}
 use lib.ListN.{getD}
+use borrow.Author.Tests.{eq-eqb}
 use Rattle.base.specs.Units.{inPack, belowShare}
 use Rattle.base.specs.Volts.{millivoltsOf}
 use Rattle.state_parts.specs.Numbers.{bandNumber}
 use Rattle.state_parts.specs.declared.band.Band.{Band}
-use Rattle.state_parts.specs.declared.band.Band.the-variants.{Normal, Cold, Cool, Warm, Hot}
+use Rattle.state_parts.specs.declared.band.Band.the-variants.{Normal, Cold, Cool, Warm, Hot, Mixed}
+use Rattle.state_parts.specs.declared.band.TsBand.the-variants as ts
 use Rattle.state_settings.specs.Ranges.{ranges, rangeOf}
 use Rattle.state_valid.specs.Holds.{profileOk, sampleOk}
+use Rattle.settle_bands.specs.Joined.{isBand}
 use Rattle.laws_account.specs.History.{Run, since, sumAfter, count, upTo}
 use Rattle.laws_account.specs.Held.{profileOf, sampleOf, elapsed, wasObserved, wasReset, wasServed, unserved, expired, ichg, overridden, cellsOf, fieldAt}
 use Rattle.laws_account.specs.Valued.{pinFault, startValue, settingOf}
-use Rattle.laws_account.specs.Judged.{vbat, packClamp, baseAt, inputOk, inputOver, inputGood, short, low, packOver, bandAt, suspended, chargeVoltage, permitted, tapering, rechargeDue, ending}
+use Rattle.laws_account.specs.Judged.{vbat, packClamp, baseAt, inputOk, inputOver, inputGood, short, low, packOver, firstTs, secondTs, tsBandAt, bandAt, suspended, chargeVoltage, permitted, tapering, rechargeDue, ending}
 use Rattle.laws_account.specs.Cycles.{trickle, precharge, fast, limitOf, reaches, unitsAfter, gave, isDone, wasDone, restarts, starts, timeIn, timeFound, limitFound, fault, chargeEnds, phaseBy, limitReached, phasesOf, phaseAt}
 use Rattle.laws_account.specs.Refused.{Accepted, refusalIn}
 use Rattle.laws_third.specs.Banded.{InBand}
 use Rattle.laws_third.proofs.Means.{Means, eqb-means, false-means, and-means, not-means, re-means}
+use Rattle.laws_third.proofs.TsBands.{is-means}
 use Rattle.laws_third.proofs.Bands.{one-band, suspended-means, tapering-means, recharge-means, voltage-means}
 use Rattle.laws_third.proofs.Crossings.{ok-means, over-means, good-means, short-means, low-means, pack-means}
 use Rattle.laws_third.proofs.Ended.{mayCharge, restartsNow, endsNow}
@@ -27,8 +31,8 @@ use Rattle.laws_third.proofs.Allowing.{allowed, allowed-means, fault-means, may
 use Rattle.laws_third.proofs.Cycling.{was-means, reached-means, within-means, restarts-means, starts-means, ends-means, done-means}
 use Rattle.laws_third.proofs.Charges.{faulty, chargesAt}
 use Rattle.laws_third.proofs.Charging.{tests-mean}
-use Rattle.laws_witness.specs.Days.{day, slow, unattended, mild, packs, inputs, stays, warm}
-use Rattle.laws_witness.specs.Clauses.{Part, goodInput, permission, noFault, noSuspension, notDone, noLimit, partOf, stopped, placeOf, Clause, part, okInput, overInput, shorted, lowPack, overPack, tapers, belowRecharge, atVoltage, banded, reached, restarted, started, ends, ended, staysDone, charges, inTrickle, inPrecharge, otherwise, clamped, clauseOf, meeting, failing, EachTried, EachAlone}
+use Rattle.laws_witness.specs.Days.{day, slow, unattended, beside, packs, inputs, stays, warm}
+use Rattle.laws_witness.specs.Clauses.{Part, goodInput, permission, noFault, noSuspension, notDone, noLimit, partOf, Stop, wants, coolBesideWarm, wanted, stopped, placeOf, Clause, part, okInput, overInput, shorted, lowPack, overPack, tapers, belowRecharge, atVoltage, atEnd, banded, reached, restarted, started, ends, ended, staysDone, charges, inTrickle, inPrecharge, otherwise, clamped, clauseOf, meeting, failing, EachTried, EachAlone}
 use Rattle.laws_witness.proofs.Accepting.{accepts, accepts-means}
 
 -- the test of each part and of each clause
@@ -50,7 +54,7 @@ part-means noLimit r a = within-means r a
 
 -- a band is known by its number
 abbrev numbered : ℕ → Band
-numbered n = getD (Normal ∷ Cold ∷ Hot ∷ Cool ∷ Warm ∷ []) n Normal
+numbered n = getD (Normal ∷ Cold ∷ Hot ∷ Cool ∷ Warm ∷ []) n Mixed
 
 numbers-back : (b : Band) → numbered (bandNumber b) ≡ b
 numbers-back Normal = refl
@@ -58,6 +62,7 @@ numbers-back Cold = refl
 numbers-back Hot = refl
 numbers-back Cool = refl
 numbers-back Warm = refl
+numbers-back Mixed = refl
 
 band-means : (b : Band) (r : Run) → Means (eqb (bandNumber (bandAt r)) (bandNumber b)) (InBand b r)
 band-means b r =
@@ -74,6 +79,7 @@ test overPack r = packOver r
 test tapers r = tapering r
 test belowRecharge r = rechargeDue r
 test atVoltage r = leb (millivoltsOf (chargeVoltage r)) (sampleOf r .pack)
+test (atEnd k b) r = isBand b (tsBandAt k r)
 test (banded b) r = eqb (bandNumber (bandAt r)) (bandNumber b)
 test restarted r = restartsNow r
 test started r = starts phaseAt r
@@ -97,6 +103,7 @@ means overPack r a = pack-means r a
 means tapers r a = tapering-means r a
 means belowRecharge r a = recharge-means r a
 means atVoltage r a = voltage-means r a
+means (atEnd k b) r a = is-means b k r
 means (banded b) r a = band-means b r
 means (reached s) r a = reached-means s r a
 means restarted r a = restarts-means r a
@@ -121,7 +128,7 @@ Computed c =
     (test c (meeting c) ≡ true) × (test c (failing c) ≡ false) × (accepts (meeting c) ≡ true) × (accepts (failing c) ≡ true)
 
 computed : (c : Clause) → Computed c
-unfolding day slow unattended mild packs inputs stays warm inPack belowShare since sumAfter count upTo profileOf sampleOf elapsed wasObserved wasReset wasServed unserved expired cellsOf fieldAt pinFault startValue settingOf vbat packClamp baseAt inputOk inputOver inputGood short low packOver bandAt suspended chargeVoltage permitted tapering rechargeDue ending unitsAfter gave isDone wasDone restarts starts timeIn timeFound limitFound fault chargeEnds phaseBy limitReached phasesOf phaseAt accepts refusalIn profileOk sampleOk rangeOf ranges
+unfolding day slow unattended beside packs inputs stays warm inPack belowShare since sumAfter count upTo profileOf sampleOf elapsed wasObserved wasReset wasServed unserved expired cellsOf fieldAt pinFault startValue settingOf vbat packClamp baseAt inputOk inputOver inputGood short low packOver tsBandAt bandAt suspended chargeVoltage permitted tapering rechargeDue ending unitsAfter gave isDone wasDone restarts starts timeIn timeFound limitFound fault chargeEnds phaseBy limitReached phasesOf phaseAt accepts refusalIn profileOk sampleOk rangeOf ranges
 computed (part goodInput) = (refl, refl, refl, refl)
 computed (part permission) = (refl, refl, refl, refl)
 computed (part noFault) = (refl, refl, refl, refl)
@@ -136,11 +143,22 @@ computed overPack = (refl, refl, refl, refl)
 computed tapers = (refl, refl, refl, refl)
 computed belowRecharge = (refl, refl, refl, refl)
 computed atVoltage = (refl, refl, refl, refl)
+computed (atEnd firstTs ts.Normal) = (refl, refl, refl, refl)
+computed (atEnd firstTs ts.Cold) = (refl, refl, refl, refl)
+computed (atEnd firstTs ts.Cool) = (refl, refl, refl, refl)
+computed (atEnd firstTs ts.Warm) = (refl, refl, refl, refl)
+computed (atEnd firstTs ts.Hot) = (refl, refl, refl, refl)
+computed (atEnd secondTs ts.Normal) = (refl, refl, refl, refl)
+computed (atEnd secondTs ts.Cold) = (refl, refl, refl, refl)
+computed (atEnd secondTs ts.Cool) = (refl, refl, refl, refl)
+computed (atEnd secondTs ts.Warm) = (refl, refl, refl, refl)
+computed (atEnd secondTs ts.Hot) = (refl, refl, refl, refl)
 computed (banded Normal) = (refl, refl, refl, refl)
 computed (banded Cold) = (refl, refl, refl, refl)
 computed (banded Cool) = (refl, refl, refl, refl)
 computed (banded Warm) = (refl, refl, refl, refl)
 computed (banded Hot) = (refl, refl, refl, refl)
+computed (banded Mixed) = (refl, refl, refl, refl)
 computed restarted = (refl, refl, refl, refl)
 computed started = (refl, refl, refl, refl)
 computed ends = (refl, refl, refl, refl)
@@ -175,16 +193,17 @@ partTests r =
 abbrev others : ℕ → List Bool
 others n = not (eqb n 0) ∷ not (eqb n 1) ∷ not (eqb n 2) ∷ not (eqb n 3) ∷ not (eqb n 4) ∷ not (eqb n 5) ∷ []
 
-stopped-tests : (c : Part) → partTests (stopped c) ≡ others (placeOf c)
-unfolding day slow unattended mild packs inputs stays inPack belowShare since sumAfter count upTo profileOf sampleOf elapsed wasObserved wasReset wasServed unserved expired cellsOf fieldAt pinFault startValue settingOf vbat packClamp baseAt inputOk inputOver inputGood short low packOver bandAt suspended chargeVoltage permitted tapering rechargeDue ending unitsAfter gave isDone wasDone restarts starts timeIn timeFound limitFound fault chargeEnds phaseBy limitReached phasesOf phaseAt
-stopped-tests goodInput = refl
-stopped-tests permission = refl
-stopped-tests noFault = refl
-stopped-tests noSuspension = refl
-stopped-tests notDone = refl
-stopped-tests noLimit = refl
+stopped-tests : (c : Stop) → partTests (stopped c) ≡ others (placeOf (wanted c))
+unfolding day slow unattended beside packs inputs stays inPack belowShare since sumAfter count upTo profileOf sampleOf elapsed wasObserved wasReset wasServed unserved expired cellsOf fieldAt pinFault startValue settingOf vbat packClamp baseAt inputOk inputOver inputGood short low packOver tsBandAt bandAt suspended chargeVoltage permitted tapering rechargeDue ending unitsAfter gave isDone wasDone restarts starts timeIn timeFound limitFound fault chargeEnds phaseBy limitReached phasesOf phaseAt
+stopped-tests (wants goodInput) = refl
+stopped-tests (wants permission) = refl
+stopped-tests (wants noFault) = refl
+stopped-tests (wants noSuspension) = refl
+stopped-tests (wants notDone) = refl
+stopped-tests (wants noLimit) = refl
+stopped-tests coolBesideWarm = refl
 
-at-place : (c d : Part) → partTest d (stopped c) ≡ not (eqb (placeOf c) (placeOf d))
+at-place : (c : Stop) (d : Part) → partTest d (stopped c) ≡ not (eqb (placeOf (wanted c)) (placeOf d))
 at-place c goodInput = ap (λ l. getD l 0 false) (stopped-tests c)
 at-place c permission = ap (λ l. getD l 1 false) (stopped-tests c)
 at-place c noFault = ap (λ l. getD l 2 false) (stopped-tests c)
@@ -192,5 +211,19 @@ at-place c noSuspension = ap (λ l. getD l 3 false) (stopped-tests c)
 at-place c notDone = ap (λ l. getD l 4 false) (stopped-tests c)
 at-place c noLimit = ap (λ l. getD l 5 false) (stopped-tests c)
 
+own-place : (p : Part) → eqb (placeOf p) (placeOf p) ≡ true
+own-place p = eq-eqb (placeOf p) (placeOf p) refl
+
+-- of cool beside warm it is computed that its run is accepted, of the others each clause has it
+stopped-accepted : (c : Stop) → Accepted (stopped c)
+stopped-accepted (wants p) = each-tried (part p) .failed
+stopped-accepted coolBesideWarm = each-tried (banded Mixed) .met
+
 pub each-alone : EachAlone
-each-alone c d e = part-means d (stopped c) (each-tried (part c) .failed) .fact (at-place c d ∙ ap not e)
+each-alone c =
+    let a = stopped-accepted c in
+    record {
+      accepted = a;
+      fails = λ h. true≢false (sym (part-means (wanted c) (stopped c) a .test h) ∙ at-place c (wanted c) ∙ ap not (own-place (wanted c)));
+      others = λ d e. part-means d (stopped c) a .fact (at-place c d ∙ ap not e);
+    }

@@ -4,18 +4,21 @@ use mathlib.Core.Path.{_≡_}
 use mathlib.Core.Bool.{false}
 use lib.Dec.{eqb}
 use Rattle.state_parts.specs.declared.band.Band.{Band}
-use Rattle.state_parts.specs.declared.band.Band.the-variants.{Normal, Cold, Cool, Warm, Hot}
+use Rattle.state_parts.specs.declared.band.Band.the-variants.{Normal, Cold, Cool, Warm, Hot, Mixed}
+use Rattle.state_parts.specs.declared.band.TsBand.{TsBand}
+use Rattle.state_parts.specs.declared.band.TsBand.the-variants as ts
 use Rattle.laws_account.specs.History.{Run, _▸_}
 use Rattle.step_turns.specs.declared.later.Later.the-variants.{Set}
 use Rattle.laws_account.specs.Held.{ichg, overridden}
+use Rattle.laws_account.specs.Judged.{Thermistor, firstTs, secondTs}
 use Rattle.laws_account.specs.Cycles.{Stage, trickle, precharge, fast}
 use Rattle.laws_account.specs.Refused.{Accepted}
 use Rattle.laws_third.specs.Crossed.{InputOk, InputOver, InputGood, Short, Low, PackOver}
 use Rattle.laws_third.specs.Stages.{WasDone, Restarts, CycleStarts, Reached, Ends, Done}
-use Rattle.laws_third.specs.Banded.{InBand, Suspending, Tapering, BelowRecharge, AtVoltage}
+use Rattle.laws_third.specs.Banded.{InTsBand, InBand, Suspending, Tapering, BelowRecharge, AtVoltage}
 use Rattle.laws_third.specs.Allowed.{Permitted, Fault, Allowed}
 use Rattle.laws_third.specs.Demand.{Charging}
-use Rattle.laws_witness.specs.Days.{sees, dayAt, slow, unattended, mild, packs, inputs, stays, warmAt}
+use Rattle.laws_witness.specs.Days.{sees, dayAt, slow, unattended, beside, mild, packs, inputs, stays, warmAt}
 
 -- "the input is good, charge is permitted, no fault or suspending temperature holds, the cycle isn't done, and no stage with a limit has reached it"
 pub data Part : Type 0 where
@@ -29,14 +32,23 @@ partOf noSuspension r = ¬ Suspending r
 partOf notDone r = ¬ Done r
 partOf noLimit r = (s : Stage) → ¬ Reached s r
 
--- a run that fails just this one
-abbrev pub stopped : Part → Run
-stopped goodInput = inputs 12000 2000
-stopped permission = dayAt 3 ▸ Set 9 0
-stopped noFault = dayAt 3 ▸ sees 4000 12000 7000 500 55000 32
-stopped noSuspension = mild 80000
-stopped notDone = dayAt 5
-stopped noLimit = dayAt 9
+-- a charge that doesn't run, for want of one of these: of each, and of a temperature that doesn't suspend once more, 02, R-7: by cool beside warm, of which neither would suspend alone
+pub data Stop : Type 0 where
+  wants : Part → Stop
+  coolBesideWarm : Stop
+
+abbrev pub wanted : Stop → Part
+wanted (wants p) = p
+wanted coolBesideWarm = noSuspension
+
+abbrev pub stopped : Stop → Run
+stopped (wants goodInput) = inputs 12000 2000
+stopped (wants permission) = dayAt 3 ▸ Set 9 0
+stopped (wants noFault) = dayAt 3 ▸ sees 4000 12000 7000 500 55000 32
+stopped (wants noSuspension) = mild 80000
+stopped (wants notDone) = dayAt 5
+stopped (wants noLimit) = dayAt 9
+stopped coolBesideWarm = beside 70000 40000
 
 abbrev pub placeOf : Part → ℕ
 placeOf goodInput = 0
@@ -50,6 +62,7 @@ placeOf noLimit = 5
 pub data Clause : Type 0 where
   part : Part → Clause
   okInput overInput shorted lowPack overPack tapers belowRecharge atVoltage : Clause
+  atEnd : Thermistor → TsBand → Clause
   banded : Band → Clause
   reached : Stage → Clause
   restarted started ends ended staysDone : Clause
@@ -65,6 +78,7 @@ clauseOf overPack r = PackOver r
 clauseOf tapers r = Tapering r
 clauseOf belowRecharge r = BelowRecharge r
 clauseOf atVoltage r = AtVoltage r
+clauseOf (atEnd k b) r = InTsBand b k r
 clauseOf (banded b) r = InBand b r
 clauseOf (reached s) r = Reached s r
 clauseOf restarted r = Restarts r
@@ -78,6 +92,30 @@ clauseOf inPrecharge r = Charging r × (¬ Short r) × Low r
 clauseOf otherwise r = Charging r × (¬ Short r) × (¬ Low r)
 clauseOf clamped r = overridden ichg r ≡ false
 
+-- a TS value in a band, and one outside it
+abbrev pub tsIn : TsBand → ℕ
+tsIn ts.Normal = 55000
+tsIn ts.Cold = 80000
+tsIn ts.Cool = 70000
+tsIn ts.Warm = 40000
+tsIn ts.Hot = 30000
+
+abbrev pub tsOutside : TsBand → ℕ
+tsOutside ts.Normal = 70000
+tsOutside ts.Cold = 70000
+tsOutside ts.Cool = 80000
+tsOutside ts.Warm = 30000
+tsOutside ts.Hot = 40000
+
+-- one thermistor in a band and the other outside it
+abbrev pub onlyAt : Thermistor → TsBand → Run
+onlyAt firstTs b = beside (tsIn b) (tsOutside b)
+onlyAt secondTs b = beside (tsOutside b) (tsIn b)
+
+abbrev pub otherEnd : Thermistor → Thermistor
+otherEnd firstTs = secondTs
+otherEnd secondTs = firstTs
+
 -- a threshold that was crossed and one that wasn't end with the same observation: only what came before differs
 abbrev pub meeting : Clause → Run
 meeting (part p) = dayAt 3
@@ -89,11 +127,13 @@ meeting overPack = packs 8800 8600
 meeting tapers = dayAt 4
 meeting belowRecharge = warmAt 7890 5
 meeting atVoltage = warmAt 7900 3
-meeting (banded Normal) = mild 55000
-meeting (banded Cold) = mild 80000
-meeting (banded Cool) = mild 70000
-meeting (banded Warm) = mild 40000
-meeting (banded Hot) = mild 30000
+meeting (atEnd k b) = onlyAt k b
+meeting (banded Normal) = mild (tsIn ts.Normal)
+meeting (banded Cold) = onlyAt secondTs ts.Cold
+meeting (banded Cool) = beside (tsIn ts.Cool) (tsIn ts.Normal)
+meeting (banded Warm) = beside (tsIn ts.Normal) (tsIn ts.Warm)
+meeting (banded Hot) = onlyAt secondTs ts.Hot
+meeting (banded Mixed) = beside (tsIn ts.Cool) (tsIn ts.Warm)
 meeting (reached trickle) = stays 3000 31000
 meeting (reached precharge) = stays 5000 41000
 meeting (reached fast) = slow 41000
@@ -109,7 +149,7 @@ meeting otherwise = dayAt 3
 meeting clamped = unattended 40000
 
 abbrev pub failing : Clause → Run
-failing (part p) = stopped p
+failing (part p) = stopped (wants p)
 failing okInput = inputs 0 2400
 failing overInput = inputs 12000 35000
 failing shorted = packs 7000 4000
@@ -118,11 +158,13 @@ failing overPack = packs 7000 8600
 failing tapers = dayAt 3
 failing belowRecharge = warmAt 7890 4
 failing atVoltage = warmAt 7890 3
-failing (banded Normal) = mild 70000
-failing (banded Cold) = mild 70000
-failing (banded Cool) = mild 80000
-failing (banded Warm) = mild 30000
-failing (banded Hot) = mild 40000
+failing (atEnd k b) = onlyAt (otherEnd k) b
+failing (banded Normal) = beside (tsIn ts.Normal) (tsIn ts.Cool)
+failing (banded Cold) = mild (tsOutside ts.Cold)
+failing (banded Cool) = beside (tsIn ts.Cool) (tsIn ts.Warm)
+failing (banded Warm) = beside (tsIn ts.Hot) (tsIn ts.Warm)
+failing (banded Hot) = beside (tsIn ts.Hot) (tsIn ts.Cold)
+failing (banded Mixed) = mild (tsIn ts.Cool)
 failing (reached trickle) = stays 3000 30999
 failing (reached precharge) = stays 5000 40999
 failing (reached fast) = slow 40999
@@ -147,6 +189,11 @@ pub record Tried (c : Clause) : Type 0 where
 abbrev pub EachTried : Type 0
 EachTried = (c : Clause) → Tried c
 
--- no part of "exactly when" follows from the others: where one fails all others may hold
+-- no part of "exactly when" follows from the others: where one fails, in a run of accepted events, all others may hold
+pub record FailsAlone (c : Stop) : Type 0 where
+  pub accepted : Accepted (stopped c)
+  pub fails : ¬ partOf (wanted c) (stopped c)
+  pub others : (d : Part) → eqb (placeOf (wanted c)) (placeOf d) ≡ false → partOf d (stopped c)
+
 abbrev pub EachAlone : Type 0
-EachAlone = (c d : Part) → eqb (placeOf c) (placeOf d) ≡ false → partOf d (stopped c)
+EachAlone = (c : Stop) → FailsAlone c

@@ -14,9 +14,13 @@ pack = record { cell = 2; vchg = 5; ichg = 4; ohms = 0; stamp = 0; ceiling = 450
 abbrev pub watched : Profile
 watched = record { cell = 2; vchg = 5; ichg = 1; ohms = 0; stamp = 0; ceiling = 4500; trickle = 0; precharge = 0; fast = 0; watchdog = 40 }
 
--- stamp, VIN, VBAT, IBAT, TS and bits
+-- stamp, VIN, VBAT, IBAT, both TS and bits
+abbrev pub seesTwo : ℕ → ℕ → ℕ → ℕ → ℕ → ℕ → ℕ → Later
+seesTwo stamp input pack ibat ts second bits = Observe (record { stamp = stamp; input = input; pack = pack; ibat = pos ibat; ts = ts; secondts = second; bits = bits })
+
+-- and with one TS for both, as kind 5 says it
 abbrev pub sees : ℕ → ℕ → ℕ → ℕ → ℕ → ℕ → Later
-sees stamp input pack ibat ts bits = Observe (record { stamp = stamp; input = input; pack = pack; ibat = pos ibat; ts = ts; bits = bits })
+sees stamp input pack ibat ts bits = seesTwo stamp input pack ibat ts ts bits
 
 -- a good input, TS normal, no bit: stamp and VBAT
 abbrev pub seen : ℕ → ℕ → Later
@@ -50,9 +54,12 @@ slow stamp = powered pack ▸ sees 1000 12000 7000 500 55000 4 ▸ sees 21000 12
 unfoldable pub unattended : ℕ → Run
 unattended stamp = powered watched ▸ Write 0x1C 8 ▸ Set 2 2000 ▸ seen 1000 7000 ▸ seen stamp 7000
 
--- one observation in fast with this TS
-unfoldable pub mild : ℕ → Run
-mild ts = powered pack ▸ sees 1000 12000 7000 500 ts 0
+-- one observation in fast with these TS, and with this one for both
+unfoldable pub beside : ℕ → ℕ → Run
+beside ts second = powered pack ▸ seesTwo 1000 12000 7000 500 ts second 0
+
+abbrev pub mild : ℕ → Run
+mild ts = beside ts ts
 
 -- VBAT first and then another
 unfoldable pub packs : ℕ → ℕ → Run

@@ -8,7 +8,7 @@ use Rattle.laws_account.specs.History.{Run, lastOf}
 use Rattle.laws_account.specs.Held.{expired}
 use Rattle.laws_account.specs.Cycles.{trickle, precharge, fast, numberAt, isDone, starts, timeIn, limitReached, phaseAt}
 use Rattle.laws_account.specs.Reported.{reportAt}
-use Rattle.laws_witness.specs.Days.{dayAt, slow, unattended, mild, warmAt}
+use Rattle.laws_witness.specs.Days.{dayAt, slow, unattended, beside, mild, warmAt}
 
 -- phase, current and voltage; where the cycle started and each stage's time in it; done, a limit reached, the watchdog expired
 pub record Told : Type 0 where
@@ -84,6 +84,14 @@ rows =
     ∷ row (mild 40000) 3 1500 8200 0 0 0 0 false false false
     ∷ row (mild 80000) 6 0 0 0 0 0 0 false false false
     ∷ row (mild 30000) 6 0 0 0 0 0 0 false false false
+    -- 02, R-7: one thermistor cool or warm beside a normal one decides; cool beside warm suspends, though cool alone and warm alone charge; cold beside hot is cold, and suspends
+    ∷ row (beside 70000 55000) 3 300 8400 0 0 0 0 false false false
+    ∷ row (beside 55000 70000) 3 300 8400 0 0 0 0 false false false
+    ∷ row (beside 55000 40000) 3 1500 8200 0 0 0 0 false false false
+    ∷ row (beside 70000 40000) 6 0 0 0 0 0 0 false false false
+    ∷ row (beside 40000 70000) 6 0 0 0 0 0 0 false false false
+    ∷ row (beside 80000 30000) 6 0 0 0 0 0 0 false false false
+    ∷ row (beside 55000 30000) 6 0 0 0 0 0 0 false false false
     -- 02, R-1: warm at 7,890, 10 mV short of 7,900: taper, done and still done; back in normal the point is 8,148 and the band alone restarts the cycle
     ∷ row (warmAt 7890 2) 4 1500 7900 1 0 0 0 false false false
     ∷ row (warmAt 7890 3) 5 0 0 1 0 0 2000 true false false

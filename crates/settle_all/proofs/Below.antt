@@ -1,7 +1,7 @@
 -- No limit is reached in the stage that a settling comes to.
 use mathlib.Core.Path.{_≡_, refl, _∙_}
 use mathlib.Core.Bool.{Bool, true, false, _||_}
-use Rattle.settle_bands.specs.Thresholds.{bandOf}
+use Rattle.settle_bands.specs.Joined.{packBandOf}
 use Rattle.base.specs.Pick.{pick}
 use Rattle.base.proofs.Tests.{neither}
 use Rattle.settle_levels.specs.Comparators.{latchesOf}
@@ -40,4 +40,4 @@ pub below-limits : BelowLimits
 unfolding settleOf settledOf forcedOf
 below-limits s o =
     let f = forcedOf s in
-    below f (latchesOf (f .profile) (f .settings) (f .registers) (f .sample) (f .latches)) (bandOf (f .profile) (f .registers) (f .sample .ts)) o
+    below f (latchesOf (f .profile) (f .settings) (f .registers) (f .sample) (f .latches)) (packBandOf (f .profile) (f .registers) (f .sample)) o

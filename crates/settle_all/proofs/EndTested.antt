@@ -1,7 +1,7 @@
 -- 02, R-2: the rules for done with the test and without settle every state alike.
 use mathlib.Core.Path.{_≡_, refl, ap}
 use mathlib.Core.Bool.{Bool, true, false, not, _&&_, and-true, true≢false}
-use Rattle.settle_bands.specs.Thresholds.{bandOf}
+use Rattle.settle_bands.specs.Joined.{packBandOf}
 use Rattle.settle_levels.specs.Comparators.{latchesOf}
 use Rattle.state_parts.specs.declared.band.Band.{Band}
 use Rattle.state_parts.specs.declared.latches.Latches.{Latches}
@@ -68,6 +68,6 @@ test-decides-nothing = record {
   settles = λ s observed.
       let f = forcedOf s in
       let k = latchesOf (f .profile) (f .settings) (f .registers) (f .sample) (f .latches) in
-      let b = bandOf (f .profile) (f .registers) (f .sample .ts) in
+      let b = packBandOf (f .profile) (f .registers) (f .sample) in
       settled-alike (testsOf f k b observed) (none-below f (f .latches) b observed) f k b;
 }

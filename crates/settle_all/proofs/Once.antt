@@ -1,7 +1,7 @@
 -- Settling again changes nothing: EN_CHG stays stored, the comparators are at rest, and the tests judge the same phase and cycle.
 use mathlib.Core.Path.{_≡_, refl}
 use mathlib.Core.Bool.{Bool, true, false, not, _&&_, _||_}
-use Rattle.settle_bands.specs.Thresholds.{bandOf}
+use Rattle.settle_bands.specs.Joined.{packBandOf}
 use Rattle.base.specs.Pick.{pick}
 use Rattle.settle_levels.proofs.Rest.{latches-rest}
 use Rattle.settle_levels.specs.Clamps.{faultOf}
@@ -67,5 +67,5 @@ settles-once s o =
     let fault = faultOf (s .profile) (s .registers) in
     let settings = storedOf fault (s .settings) in
     let k = latchesOf (s .profile) settings (s .registers) (s .sample) (s .latches) in
-    let band = bandOf (s .profile) (s .registers) (s .sample .ts) in
+    let band = packBandOf (s .profile) (s .registers) (s .sample) in
     simp (stored-again fault (s .settings), latches-rest (s .profile) settings (s .registers) (s .sample) (s .latches)) (settled-again (forcedOf s) k band o (none-below (forcedOf s) (s .latches) band o))

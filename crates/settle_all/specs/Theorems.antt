@@ -3,7 +3,7 @@ use Prim.Native.Nat.{_≤_}
 use mathlib.Core.Path.{_≡_}
 use mathlib.Core.Bool.{Bool, true, false, not, _&&_}
 use mathlib.Core.Logic.{_≢_}
-use Rattle.settle_bands.specs.Thresholds.{bandOf}
+use Rattle.settle_bands.specs.Joined.{packBandOf}
 use Rattle.settle_levels.specs.Clamps.{faultOf}
 use Rattle.settle_levels.specs.Comparators.{latchesOf}
 use Rattle.settle_levels.specs.Voltage.{chargeVoltageOf}
@@ -41,7 +41,7 @@ testedOf s observed = testsOf (forcedOf s) (settleOf s observed .latches) (settl
 
 pub record Moved (s : State) (observed : Bool) : Type 0 where
   pub latches : settleOf s observed .latches ≡ latchesOf (s .profile) (s .settings) (s .registers) (s .sample) (s .latches)
-  pub band : settleOf s observed .band ≡ bandOf (s .profile) (s .registers) (s .sample .ts)
+  pub band : settleOf s observed .band ≡ packBandOf (s .profile) (s .registers) (s .sample)
   pub cycle : settleOf s observed .cycle ≡ cycleOf (testedOf s observed) (s .cycle)
   pub phase : settleOf s observed .phase ≡ phaseOf (testedOf s observed)
 
@@ -69,7 +69,7 @@ pub record TestDecidesNothing : Type 0 where
 
 -- 02, R-1: the recharge point "is taken from the charge voltage after the band's cut". VBAT at or above that voltage, in the band that this settling judges
 abbrev pub Charged : State → Type 0
-Charged s = chargeVoltageOf (s .profile) (s .settings) (s .registers) (bandOf (s .profile) (s .registers) (s .sample .ts)) .0 ≤ s .sample .pack
+Charged s = chargeVoltageOf (s .profile) (s .settings) (s .registers) (packBandOf (s .profile) (s .registers) (s .sample)) .0 ≤ s .sample .pack
 
 -- there a charge that is done stays done, wherever phase 5 would hold
 abbrev pub ChargedStays : Type 0

@@ -2,7 +2,7 @@
 ghost use mathlib.Core.Path.{_≡_};
 ghost use Rattle.settle_all.specs.Settle.{storedOf, forcedOf, settledOf, settleOf};
 use crate::gather;
-use settle_bands::thresholds;
+use settle_bands::joined;
 use settle_levels::clamps;
 use settle_levels::comparators;
 use settle_phases::cycles;
@@ -72,10 +72,9 @@ pub fn settle(state: State, observed: bool) -> State
     let settings = start.settings;
     let registers = start.registers;
     let sample = start.sample;
-    let ts = sample.ts;
     let was = start.latches;
     let latches = comparators::latches(profile, settings, registers, sample, was);
-    let band = thresholds::band_at(profile, registers, ts);
+    let band = joined::pack_band(profile, registers, sample);
     let t = gather::gather(start, latches, band, observed);
     settled(start, latches, band, t)
 }

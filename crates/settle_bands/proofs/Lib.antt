@@ -1,3 +1,4 @@
 -- The laws of the crate.
 pub mod Shares
 pub mod Firsts
+pub mod Joining

@@ -7,7 +7,7 @@ use Rattle.base.proofs.Table.{at}
 use Rattle.state_fields.specs.Held.{fieldOf}
 use Rattle.state_table.specs.Rows.{jeitaIsetc, jeitaIseth}
 use Rattle.state_parts.specs.declared.band.Band.{Band}
-use Rattle.state_parts.specs.declared.band.Band.the-variants.{Normal, Cold, Cool, Warm, Hot}
+use Rattle.state_parts.specs.declared.band.Band.the-variants.{Normal, Cold, Cool, Warm, Hot, Mixed}
 use Rattle.state_parts.specs.declared.profile.Profile.{Profile}
 use Rattle.state_parts.specs.declared.registers.Registers.{Registers}
 use Rattle.settle_bands.specs.Effect.{shareOf}
@@ -19,3 +19,4 @@ share-most p g Cold = omega arith
 share-most p g Cool = leb→le _ 100 (at (λ (k x : ℕ). leb x 100) (0 ∷ 20 ∷ 40 ∷ 100 ∷ []) tt (fieldOf jeitaIsetc g) (omega arith))
 share-most p g Warm = leb→le _ 100 (at (λ (k x : ℕ). leb x 100) (40 ∷ 100 ∷ []) tt (fieldOf jeitaIseth g) (omega arith))
 share-most p g Hot = omega arith
+share-most p g Mixed = omega arith

@@ -9,17 +9,18 @@ use Rattle.base.specs.declared.units.CellMv.{CellMv}
 use Rattle.state_fields.specs.Held.{fieldOf}
 use Rattle.state_table.specs.Rows.{jeitaIsetc, jeitaIseth, jeitaVset}
 use Rattle.state_parts.specs.declared.band.Band.{Band}
-use Rattle.state_parts.specs.declared.band.Band.the-variants.{Normal, Cold, Cool, Warm, Hot}
+use Rattle.state_parts.specs.declared.band.Band.the-variants.{Normal, Cold, Cool, Warm, Hot, Mixed}
 use Rattle.state_parts.specs.declared.profile.Profile.{Profile}
 use Rattle.state_parts.specs.declared.registers.Registers.{Registers}
 
--- "6 suspended, cold, hot, cool with JEITA_ISETC 0, warm with JEITA_VSET 0"
+-- "6 suspended, cold, hot, cool with JEITA_ISETC 0, warm with JEITA_VSET 0"; 02, R-7: "a new band, apart, which suspends"
 abbrev pub suspendedIn : Band → Bool → Bool → Bool
 suspendedIn Normal cool warm = false
 suspendedIn Cold cool warm = true
 suspendedIn Cool cool warm = cool
 suspendedIn Warm cool warm = warm
 suspendedIn Hot cool warm = true
+suspendedIn Mixed cool warm = true
 
 unfoldable pub suspendsOf : Profile → Registers → Band → Bool
 suspendsOf p g b = suspendedIn b (eqb (fieldOf jeitaIsetc g) 0) (eqb (fieldOf jeitaVset g) 0)
@@ -38,6 +39,7 @@ shareByBand Cold cool warm = 100
 shareByBand Cool cool warm = cool
 shareByBand Warm cool warm = warm
 shareByBand Hot cool warm = 100
+shareByBand Mixed cool warm = 100
 
 unfoldable pub shareOf : Profile → Registers → Band → ℕ
 shareOf p g b = shareByBand b (coolShare p (fieldOf jeitaIsetc g)) (warmShare p (fieldOf jeitaIseth g))
@@ -48,6 +50,7 @@ isWarm Cold = false
 isWarm Cool = false
 isWarm Warm = true
 isWarm Hot = false
+isWarm Mixed = false
 
 -- "less in warm 250, 100 or 0 per cell (JEITA_VSET 1-3)."
 abbrev pub warmCuts : List ℕ

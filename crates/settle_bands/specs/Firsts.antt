@@ -2,7 +2,7 @@
 use Prim.Native.Nat.{ℕ, _≤_}
 use mathlib.Core.Path.{_≡_}
 use mathlib.Core.Bool.{false}
-use Rattle.state_parts.specs.declared.band.Band.the-variants.{Cold, Hot}
+use Rattle.state_parts.specs.declared.band.TsBand.the-variants.{Cold, Hot}
 use Rattle.state_parts.specs.declared.profile.Profile.{Profile}
 use Rattle.state_parts.specs.declared.registers.Registers.{Registers}
 use Rattle.settle_bands.specs.Thresholds.{th1Of, th5Of, tsOff, bandOf}

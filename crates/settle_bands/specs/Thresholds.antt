@@ -7,8 +7,8 @@ use lib.Dec.{leb, eqb}
 use Rattle.base.specs.Pick.{pick}
 use Rattle.state_fields.specs.Held.{fieldOf}
 use Rattle.state_table.specs.Rows.{tsTh1, tsTh2, tsTh3, tsTh5, enTs, enJeita}
-use Rattle.state_parts.specs.declared.band.Band.{Band}
-use Rattle.state_parts.specs.declared.band.Band.the-variants.{Normal, Cold, Cool, Warm, Hot}
+use Rattle.state_parts.specs.declared.band.TsBand.{TsBand}
+use Rattle.state_parts.specs.declared.band.TsBand.the-variants.{Normal, Cold, Cool, Warm, Hot}
 use Rattle.state_parts.specs.declared.profile.Profile.{Profile}
 use Rattle.state_parts.specs.declared.registers.Registers.{Registers}
 
@@ -45,8 +45,8 @@ abbrev pub jeitaOn : Registers → Bool
 jeitaOn g = eqb (fieldOf enJeita g) 1
 
 -- "Band, first that holds: EN_TS 0 normal; TS >= TH1 cold; TS <= TH5 hot; with EN_JEITA: TS >= TH2 cool; TS <= TH3 warm; else normal."
-abbrev pub firstBand : Bool → Bool → Bool → Bool → Bool → Band
+abbrev pub firstBand : Bool → Bool → Bool → Bool → Bool → TsBand
 firstBand off cold hot cool warm = pick off Normal (pick cold Cold (pick hot Hot (pick cool Cool (pick warm Warm Normal))))
 
-unfoldable pub bandOf : Profile → Registers → ℕ → Band
+unfoldable pub bandOf : Profile → Registers → ℕ → TsBand
 bandOf p g ts = firstBand (tsOff g) (leb (th1Of p g) ts) (leb ts (th5Of p g)) (jeitaOn g && leb (th2Of p g) ts) (jeitaOn g && leb ts (th3Of p g))

@@ -19,6 +19,7 @@ fn suspended_in(band: Band, stopscool: bool, stopswarm: bool) -> bool
         Band::Cool => stopscool,
         Band::Warm => stopswarm,
         Band::Hot => true,
+        Band::Mixed => true,
     }
 }
 
@@ -40,6 +41,7 @@ fn share_by_band(band: Band, cool: u32, warm: u32) -> u32
         Band::Cool => cool,
         Band::Warm => warm,
         Band::Hot => 100,
+        Band::Mixed => 100,
     }
 }
 
@@ -63,6 +65,7 @@ fn is_warm(band: Band) -> bool
         Band::Cool => false,
         Band::Warm => true,
         Band::Hot => false,
+        Band::Mixed => false,
     }
 }
 

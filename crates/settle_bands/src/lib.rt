@@ -1,3 +1,4 @@
-// The temperature bands: which one a thermistor's value is in, and what it does to a charge.
+// The temperature bands: which one a thermistor's value is in, what two of them come to, and what that does to a charge.
 pub mod effect;
+pub mod joined;
 pub mod thresholds;

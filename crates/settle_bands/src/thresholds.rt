@@ -3,7 +3,7 @@ ghost use mathlib.Core.Path.{_≡_};
 ghost use Rattle.settle_bands.specs.Thresholds.{th1Of, th2Of, th3Of, th5Of, firstBand, bandOf};
 use base::entry;
 use state_fields::named;
-use state_parts::band::Band;
+use state_parts::band::TsBand;
 use state_parts::profile::Profile;
 use state_parts::registers::Registers;
 
@@ -36,26 +36,26 @@ fn th5(profile: Profile, registers: Registers) -> u32
 }
 
 // The judged order of bands.
-fn first_band(off: bool, cold: bool, hot: bool, cool: bool, warm: bool) -> Band
+fn first_band(off: bool, cold: bool, hot: bool, cool: bool, warm: bool) -> TsBand
     ensures { λ r. ⌜ r ≡ firstBand off cold hot cool warm ⌝ }
 {
     if off {
-        Band::Normal
+        TsBand::Normal
     } else if cold {
-        Band::Cold
+        TsBand::Cold
     } else if hot {
-        Band::Hot
+        TsBand::Hot
     } else if cool {
-        Band::Cool
+        TsBand::Cool
     } else if warm {
-        Band::Warm
+        TsBand::Warm
     } else {
-        Band::Normal
+        TsBand::Normal
     }
 }
 
 // The band of one TS value.
-pub fn band_at(profile: Profile, registers: Registers, ts: u32) -> Band
+pub fn band_at(profile: Profile, registers: Registers, ts: u32) -> TsBand
     ensures { λ r. ⌜ r ≡ bandOf profile registers ts ⌝ }
 {
     let off = named::en_ts(registers) == 0;

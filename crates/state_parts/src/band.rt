@@ -1,8 +1,9 @@
-// The temperature band of the thermistor's value.
+// The temperature bands: that of one thermistor's value, and the pack's.
 ghost use mathlib.Core.Path.{_≡_};
-ghost use Rattle.state_parts.specs.Numbers.{bandNumber};
+ghost use Rattle.state_parts.specs.Numbers.{tsBandNumber, bandNumber};
 
-pub enum Band {
+// What one TS value is in.
+pub enum TsBand {
     Normal,
     Cold,
     Cool,
@@ -10,7 +11,30 @@ pub enum Band {
     Hot,
 }
 
-// The sheet's number of a band.
+// What the two thermistors of a pack come to; one cool beside one warm is a band of its own.
+pub enum Band {
+    Normal,
+    Cold,
+    Cool,
+    Warm,
+    Hot,
+    Mixed,
+}
+
+// The number of one value's band.
+pub fn ts_number(b: TsBand) -> u32
+    ensures { λ r. ⌜ r ≡ tsBandNumber b ⌝ }
+{
+    match b {
+        TsBand::Normal => 0,
+        TsBand::Cold => 1,
+        TsBand::Cool => 3,
+        TsBand::Warm => 4,
+        TsBand::Hot => 2,
+    }
+}
+
+// The number of the pack's band, which TS_STAT shows.
 pub fn number(b: Band) -> u32
     ensures { λ r. ⌜ r ≡ bandNumber b ⌝ }
 {
@@ -20,5 +44,6 @@ pub fn number(b: Band) -> u32
         Band::Cool => 3,
         Band::Warm => 4,
         Band::Hot => 2,
+        Band::Mixed => 7,
     }
 }

@@ -57,9 +57,9 @@ startSettings p cells = record {
 abbrev pub startRegisters : Profile → Registers
 startRegisters p = record { words = startWords p; cells = p .cell }
 
--- "before the first observation after a power-on it is TS 55,000 and zeros"; its stamp is the power-on's
+-- "before the first observation after a power-on it is TS 55,000 and zeros", both thermistors'; its stamp is the power-on's
 abbrev pub startSample : Profile → Sample
-startSample p = record { stamp = p .stamp; input = 0; pack = 0; ibat = pos 0; ts = 55000; bits = 0 }
+startSample p = record { stamp = p .stamp; input = 0; pack = 0; ibat = pos 0; ts = 55000; secondts = 55000; bits = 0 }
 
 -- "A cycle starts where they last cleared": no stage has a time, and nothing is done
 abbrev pub startCycle : Cycle

@@ -98,6 +98,7 @@ pub fn start_sample(p: Profile) -> Sample
         pack: 0,
         ibat: 0,
         ts: 55000,
+        secondts: 55000,
         bits: 0,
     }
 }

@@ -54,13 +54,14 @@ pub record SampleBounds (x : Sample) : Type 0 where
   pub input : x .input ≤ 45000
   pub pack : x .pack ≤ 45000
   pub ts : x .ts ≤ 100000
+  pub secondts : x .secondts ≤ 100000
   pub bits : x .bits ≤ 63
 
 pub sample-bounds : (x : Sample) → sampleOk x ≡ true → SampleBounds x
 unfolding sampleOk
 sample-bounds x e =
     let k = simp (and-iff, leb-iff) at e in
-    record { input = omega arith; pack = omega arith; ts = omega arith; bits = omega arith }
+    record { input = omega arith; pack = omega arith; ts = omega arith; secondts = omega arith; bits = omega arith }
 
 pub few-cells : (p : Profile) (g : Registers) → registersOk p g ≡ true → g .cells ≤ 7
 unfolding registersOk

@@ -25,11 +25,11 @@ profileOk p =
     leb (p .cell) 7 && leb (p .vchg) 7 && leb (p .ichg) 7 && leb (p .ohms) 33000 && leb 4350 (p .ceiling) && leb (p .ceiling) 4714
     && leb (p .trickle) 172800 && leb (p .precharge) 172800 && leb (p .fast) 172800 && leb (p .watchdog) 172800
 
--- "5 observe | stamp; VIN, VBAT 0-45,000; IBAT -10,000 to 5,000; TS 0-100,000; bits 0-63"
+-- "5 observe | stamp; VIN, VBAT 0-45,000; IBAT -10,000 to 5,000; TS 0-100,000; bits 0-63"; 02, R-7: "The sample gets a second TS value"
 unfoldable pub sampleOk : Sample → Bool
 sampleOk x =
     leb (x .input) 45000 && leb (x .pack) 45000 && leZ (negsuc 9999) (x .ibat) && leZ (x .ibat) (pos 5000) && leb (x .ts) 100000
-    && leb (x .bits) 63
+    && leb (x .bits) 63 && leb (x .secondts) 100000
 
 -- "Reserved .. bits ignore writes; reserved read 0": no bit is held but those of stored fields; FSW has a frequency, and there are at most seven cells
 unfoldable pub registersOk : Profile → Registers → Bool

@@ -41,6 +41,7 @@ pub fn sample_ok(x: Sample) -> bool
         & (x.ibat <= 5000)
         & (x.ts <= 100000)
         & (x.bits <= 63)
+        & (x.secondts <= 100000)
 }
 
 // The registers hold what they may.

@@ -8,12 +8,13 @@ use Rattle.base.specs.Pick.{pick}
 use Rattle.log_event.specs.declared.Event.{Event}
 use Rattle.log_event.specs.declared.Event.the-variants as event
 use Rattle.log_event.specs.declared.spelled.SpelledResistors.{SpelledResistors}
+use Rattle.log_event.specs.declared.spelled.SpelledSample.{SpelledSample}
 use Rattle.state_parts.specs.declared.profile.Profile.{Profile}
 use Rattle.step_pins.specs.Codes.{codeOf}
 use Rattle.step_pins.proofs.Pins.{pin-table}
-use Rattle.step_turns.specs.Ranges.{profileInRange, sampleInRange, resistorsInRange}
+use Rattle.step_turns.specs.Ranges.{profileInRange, twoInRange, resistorsInRange}
 use Rattle.step_turns.specs.Coded.{codedOf}
-use Rattle.step_turns.specs.Turns.{heldProfile, heldSample, opensWith, turnOf}
+use Rattle.step_turns.specs.Turns.{heldProfile, heldSample, opensWith, observesWith, turnOf}
 use Rattle.step_turns.specs.Begins.{StandsFor, in-span, in-none, byCodes, byResistors, Begins, coded, soldered}
 use Rattle.step_turns.specs.Promises.{SaysOneProfile, BeginsAsSaid}
 use Rattle.step_turns.specs.declared.later.Later.the-variants.{Observe}
@@ -45,6 +46,7 @@ saidOr other (event.Observe x) = other
 saidOr other event.Service = other
 saidOr other event.Reset = other
 saidOr other (event.PowerOnResistors r) = heldProfile (codedOf r)
+saidOr other (event.ObserveTwo t) = other
 saidOr other (event.WriteRun address raw) = other
 saidOr other (event.ReadFlags address) = other
 
@@ -98,17 +100,21 @@ same e p q b o = by (opens e p b)
     by (inl h) = subst (λ (x : Profile). Begins e x) (ap (opened p) (sym h ∙ o)) b
     by (inr h) = closed (turnOf e) q (ap isOpen h) o
 
+observed : {A : Type 0} (x : SpelledSample) (second : ℕ) (p : Profile) → observesWith x second ≡ Opens p → A
+observed {A} x second p e = either (twoInRange x second) e
+  where
+    either : (b : Bool) → pick b (Follows (Observe (heldSample x second))) FollowsOutside ≡ Opens p → A
+    either true e = closed _ p refl e
+    either false e = closed _ p refl e
+
 said : (e : Event) (p : Profile) → turnOf e ≡ Opens p → Begins e p
 unfolding turnOf
 said (event.PowerOn q) p e = same (event.PowerOn q) (heldProfile q) p (coded (heldProfile q)) e
 said (event.Set number value) p e = closed _ p refl e
 said (event.Write address byte) p e = closed _ p refl e
 said event.TakeFlags p e = closed _ p refl e
-said (event.Observe x) p e = either (sampleInRange x) e
-  where
-    either : (b : Bool) → pick b (Follows (Observe (heldSample x))) FollowsOutside ≡ Opens p → Begins (event.Observe x) p
-    either true e = closed _ p refl e
-    either false e = closed _ p refl e
+said (event.Observe x) p e = observed x (x .ts) p e
+said (event.ObserveTwo t) p e = observed (t .sample) (t .second) p e
 said event.Service p e = closed _ p refl e
 said event.Reset p e = closed _ p refl e
 said (event.WriteRun address raw) p e = closed _ p refl e

@@ -1,4 +1,5 @@
--- What is held of an event whose numbers are in their ranges is what a held part may be.
+-- What is held of an event whose numbers are in their ranges is what a held part may be; two equal TS values are held as one is.
+use Prim.Native.Nat.{ℕ}
 use mathlib.Core.Path.{_≡_, refl}
 use mathlib.Core.Bool.{Bool, true, false}
 use Rattle.base.specs.Pick.{pick}
@@ -7,10 +8,10 @@ use Rattle.log_event.specs.declared.Event.the-variants as event
 use Rattle.log_event.specs.declared.spelled.SpelledProfile.{SpelledProfile}
 use Rattle.log_event.specs.declared.spelled.SpelledSample.{SpelledSample}
 use Rattle.state_valid.specs.Holds.{profileOk, sampleOk}
-use Rattle.step_turns.specs.Ranges.{profileInRange, sampleInRange, resistorsInRange}
+use Rattle.step_turns.specs.Ranges.{profileInRange, sampleInRange, twoInRange, resistorsInRange}
 use Rattle.step_turns.specs.Coded.{codedOf}
 use Rattle.step_turns.specs.Turns.{heldProfile, heldSample, opensWith, turnOf}
-use Rattle.step_turns.specs.Promises.{TurnFits, EveryTurnFits}
+use Rattle.step_turns.specs.Promises.{TurnFits, EveryTurnFits, EqualSayFive}
 use Rattle.step_turns.specs.declared.later.Later.the-variants.{Observe}
 use Rattle.step_turns.specs.declared.turn.Turn.{Turn}
 use Rattle.step_turns.specs.declared.turn.Turn.the-variants.{Opens, Follows, OpensOutside, FollowsOutside}
@@ -19,17 +20,17 @@ pub profile-held : (p : SpelledProfile) → profileOk (heldProfile p) ≡ profil
 unfolding profileOk profileInRange
 profile-held p = refl
 
-pub sample-held : (x : SpelledSample) → sampleOk (heldSample x) ≡ sampleInRange x
-unfolding sampleOk sampleInRange
-sample-held x = refl
+pub sample-held : (x : SpelledSample) (second : ℕ) → sampleOk (heldSample x second) ≡ twoInRange x second
+unfolding sampleOk sampleInRange twoInRange
+sample-held x second = refl
 
 opens-by : (p : SpelledProfile) (b : Bool) → profileOk (heldProfile p) ≡ b → TurnFits (pick b (Opens (heldProfile p)) OpensOutside)
 opens-by p true e = e
 opens-by p false e = refl
 
-observes-by : (x : SpelledSample) (b : Bool) → sampleOk (heldSample x) ≡ b → TurnFits (pick b (Follows (Observe (heldSample x))) FollowsOutside)
-observes-by x true e = e
-observes-by x false e = refl
+observes-by : (x : SpelledSample) (second : ℕ) (b : Bool) → sampleOk (heldSample x second) ≡ b → TurnFits (pick b (Follows (Observe (heldSample x second))) FollowsOutside)
+observes-by x second true e = e
+observes-by x second false e = refl
 
 within-by : (t : Turn) (b : Bool) → TurnFits t → TurnFits (pick b t OpensOutside)
 within-by t true h = h
@@ -41,9 +42,14 @@ every-turn-fits (event.PowerOn p) = opens-by p (profileInRange p) (profile-held 
 every-turn-fits (event.Set number value) = refl
 every-turn-fits (event.Write address byte) = refl
 every-turn-fits event.TakeFlags = refl
-every-turn-fits (event.Observe x) = observes-by x (sampleInRange x) (sample-held x)
+every-turn-fits (event.Observe x) = observes-by x (x .ts) (twoInRange x (x .ts)) (sample-held x (x .ts))
 every-turn-fits event.Service = refl
 every-turn-fits event.Reset = refl
 every-turn-fits (event.PowerOnResistors r) = within-by (opensWith (codedOf r)) (resistorsInRange r) (opens-by (codedOf r) (profileInRange (codedOf r)) (profile-held (codedOf r)))
+every-turn-fits (event.ObserveTwo t) = observes-by (t .sample) (t .second) (twoInRange (t .sample) (t .second)) (sample-held (t .sample) (t .second))
 every-turn-fits (event.WriteRun address raw) = refl
 every-turn-fits (event.ReadFlags address) = refl
+
+pub equal-say-five : EqualSayFive
+unfolding turnOf
+equal-say-five x = refl

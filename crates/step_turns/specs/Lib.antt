@@ -3,4 +3,5 @@ pub mod Ranges
 pub mod Coded
 pub mod Turns
 pub mod Begins
+pub mod Sampled
 pub mod Promises

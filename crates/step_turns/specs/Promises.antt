@@ -1,15 +1,20 @@
--- What is promised of every event: what is held of numbers in their ranges is what a held part may be, and a run begins with what its power-on says.
+-- What is promised of every event: what is held of numbers in their ranges is what a held part may be, a run begins with what its power-on says, and an observation is of what it says.
 use mathlib.Core.Path.{_≡_}
 use mathlib.Core.Bool.{Bool, true}
 use mathlib.Core.Logic.{_⊎_}
 use Rattle.log_event.specs.declared.Event.{Event}
+use Rattle.log_event.specs.declared.Event.the-variants as event
 use Rattle.log_event.specs.declared.Event.the-variants.{PowerOn, PowerOnResistors}
 use Rattle.log_event.specs.declared.spelled.SpelledProfile.{SpelledProfile}
 use Rattle.log_event.specs.declared.spelled.SpelledResistors.{SpelledResistors}
+use Rattle.log_event.specs.declared.spelled.SpelledSample.{SpelledSample}
+use Rattle.log_event.specs.declared.spelled.SpelledTwo.{SpelledTwo}
 use Rattle.state_parts.specs.declared.profile.Profile.{Profile}
+use Rattle.state_parts.specs.declared.sample.Sample.{Sample}
 use Rattle.state_valid.specs.Holds.{profileOk, sampleOk}
 use Rattle.step_turns.specs.Turns.{turnOf}
 use Rattle.step_turns.specs.Begins.{Begins}
+use Rattle.step_turns.specs.Sampled.{SaysSample}
 use Rattle.step_turns.specs.declared.later.Later.{Later}
 use Rattle.step_turns.specs.declared.later.Later.the-variants.{Set, Write, TakeFlags, Observe, Service, Reset, WriteRun, ReadFlags}
 use Rattle.step_turns.specs.declared.turn.Turn.{Turn}
@@ -40,6 +45,10 @@ TurnFits t = turnOk t ≡ true
 abbrev pub EveryTurnFits : Type 0
 EveryTurnFits = (e : Event) → TurnFits (turnOf e)
 
+-- 02, R-7: "kind 5 stands for two equal ones": kind 10 with them does what it does
+abbrev pub EqualSayFive : Type 0
+EqualSayFive = (x : SpelledSample) → turnOf (event.ObserveTwo (record { sample = x; second = x .ts })) ≡ turnOf (event.Observe x)
+
 -- each power-on says a profile, in its ranges or not, and no event says two
 pub record SaysOneProfile : Type 0 where
   pub codes : (q : SpelledProfile) → (p : Profile) × Begins (PowerOn q) p
@@ -50,3 +59,14 @@ pub record SaysOneProfile : Type 0 where
 pub record BeginsAsSaid : Type 0 where
   pub opens : (e : Event) (p : Profile) → Begins e p → (turnOf e ≡ Opens p) ⊎ (turnOf e ≡ OpensOutside)
   pub said : (e : Event) (p : Profile) → turnOf e ≡ Opens p → Begins e p
+
+-- the same of an observation: it says a sample, in its ranges or not, and no event says two
+pub record SaysOneSample : Type 0 where
+  pub one-value : (x : SpelledSample) → (y : Sample) × SaysSample (event.Observe x) y
+  pub two-values : (t : SpelledTwo) → (y : Sample) × SaysSample (event.ObserveTwo t) y
+  pub one : (e : Event) (x y : Sample) → SaysSample e x → SaysSample e y → x ≡ y
+
+-- what follows is the observation of that sample, or a number is outside its range; and no other event is an observation
+pub record ObservesAsSaid : Type 0 where
+  pub follows : (e : Event) (x : Sample) → SaysSample e x → (turnOf e ≡ Follows (Observe x)) ⊎ (turnOf e ≡ FollowsOutside)
+  pub said : (e : Event) (x : Sample) → turnOf e ≡ Follows (Observe x) → SaysSample e x

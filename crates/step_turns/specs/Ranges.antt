@@ -1,4 +1,5 @@
--- 01, "Events and their log spelling": the ranges of kind 1's and kind 5's numbers; 02, R-5: of the three that kind 9 has for codes. 5: "a number outside kind 1, 3 or 5's ranges above". Kind 3's byte is judged after its address.
+-- 01, "Events and their log spelling": the ranges of kind 1's and kind 5's numbers; 02, R-5: of the three that kind 9 has for codes; R-7: of the one that kind 10 has more than kind 5. 5: "a number outside kind 1, 3 or 5's ranges above". Kind 3's byte is judged after its address.
+use Prim.Native.Nat.{ℕ}
 use mathlib.Core.Bool.{Bool, _&&_}
 use lib.Dec.{leb}
 use lib.IntN.{pos, negsuc}
@@ -18,6 +19,10 @@ unfoldable pub sampleInRange : SpelledSample → Bool
 sampleInRange x =
     leb (x .input) 45000 && leb (x .pack) 45000 && leZ (negsuc 9999) (x .ibat) && leZ (x .ibat) (pos 5000) && leb (x .ts) 100000
     && leb (x .bits) 63
+
+-- R-7: "Kind 10 is kind 5 with the second value right after the first", a TS value as the first is
+unfoldable pub twoInRange : SpelledSample → ℕ → Bool
+twoInRange x second = sampleInRange x && leb second 100000
 
 -- R-5: "ohms above 100,000 are 5"
 unfoldable pub resistorsInRange : SpelledResistors → Bool

@@ -1,6 +1,6 @@
-// The ranges of kind 1's and kind 5's numbers, and of the three that kind 9 has for codes.
+// The ranges of kind 1's and kind 5's numbers, of the three that kind 9 has for codes, and of the one that kind 10 has more than kind 5.
 ghost use mathlib.Core.Path.{_≡_};
-ghost use Rattle.step_turns.specs.Ranges.{profileInRange, sampleInRange, resistorsInRange};
+ghost use Rattle.step_turns.specs.Ranges.{profileInRange, sampleInRange, twoInRange, resistorsInRange};
 use log_event::spelled::SpelledProfile;
 use log_event::spelled::SpelledResistors;
 use log_event::spelled::SpelledSample;
@@ -31,6 +31,14 @@ pub fn sample_in_range(x: SpelledSample) -> bool
         & (x.ibat <= 5000)
         & (x.ts <= 100000)
         & (x.bits <= 63)
+}
+
+// The same, with the second thermistor's value.
+pub fn two_in_range(x: SpelledSample, second: u32) -> bool
+    ensures { λ r. ⌜ r ≡ twoInRange x second ⌝ }
+{
+    let first = sample_in_range(x);
+    first & (second <= 100000)
 }
 
 // The resistors of a power-on in their range.

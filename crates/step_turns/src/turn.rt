@@ -1,6 +1,6 @@
 // An event as what it does to a model.
 ghost use mathlib.Core.Path.{_≡_};
-ghost use Rattle.step_turns.specs.Turns.{heldProfile, heldSample, opensWith, turnOf};
+ghost use Rattle.step_turns.specs.Turns.{heldProfile, heldSample, opensWith, observesWith, turnOf};
 use crate::coded;
 use crate::later::Later;
 use crate::ranges;
@@ -36,9 +36,9 @@ fn held_profile(p: SpelledProfile) -> Profile
     }
 }
 
-// The sample that is held of an observation.
-fn held_sample(x: SpelledSample) -> Sample
-    ensures { λ r. ⌜ r ≡ heldSample x ⌝ }
+// The sample that is held of an observation, with the second thermistor's value.
+fn held_sample(x: SpelledSample, second: u32) -> Sample
+    ensures { λ r. ⌜ r ≡ heldSample x second ⌝ }
 {
     Sample {
         stamp: x.stamp,
@@ -46,6 +46,7 @@ fn held_sample(x: SpelledSample) -> Sample
         pack: x.pack,
         ibat: x.ibat,
         ts: x.ts,
+        secondts: second,
         bits: x.bits,
     }
 }
@@ -61,6 +62,17 @@ fn opens_with(p: SpelledProfile) -> Turn
     }
 }
 
+// What an observation with these numbers does.
+fn observes_with(x: SpelledSample, second: u32) -> Turn
+    ensures { λ r. ⌜ r ≡ observesWith x second ⌝ }
+{
+    if ranges::two_in_range(x, second) {
+        Turn::Follows(Later::Observe(held_sample(x, second)))
+    } else {
+        Turn::FollowsOutside
+    }
+}
+
 // What an event does.
 pub fn turn_of(e: Event) -> Turn
     ensures { λ r. ⌜ r ≡ turnOf e ⌝ }
@@ -70,13 +82,7 @@ pub fn turn_of(e: Event) -> Turn
         Event::Set(number, value) => Turn::Follows(Later::Set(number, value)),
         Event::Write(address, byte) => Turn::Follows(Later::Write(address, byte)),
         Event::TakeFlags => Turn::Follows(Later::TakeFlags),
-        Event::Observe(x) => {
-            if ranges::sample_in_range(x) {
-                Turn::Follows(Later::Observe(held_sample(x)))
-            } else {
-                Turn::FollowsOutside
-            }
-        }
+        Event::Observe(x) => observes_with(x, x.ts),
         Event::Service => Turn::Follows(Later::Service),
         Event::Reset => Turn::Follows(Later::Reset),
         Event::PowerOnResistors(r) => {
@@ -85,6 +91,11 @@ pub fn turn_of(e: Event) -> Turn
             } else {
                 Turn::OpensOutside
             }
+        }
+        Event::ObserveTwo(t) => {
+            let x = t.sample;
+            let second = t.second;
+            observes_with(x, second)
         }
         Event::WriteRun(address, raw) => Turn::Follows(Later::WriteRun(address, raw)),
         Event::ReadFlags(address) => Turn::Follows(Later::ReadFlags(address)),

@@ -33,6 +33,7 @@ fn band(b: Band) {
         Band::Cool => say::text(b"cool "),
         Band::Warm => say::text(b"warm "),
         Band::Hot => say::text(b"hot "),
+        Band::Mixed => say::text(b"mixed "),
     }
 }
 

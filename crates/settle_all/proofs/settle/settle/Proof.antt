@@ -5,7 +5,7 @@ use Rattle.settle_all.proofs.settle.settle.Tie as tie
 
 returns : tie.Need-returns
 unfolding settleOf
-returns c = simp (c .settled .ensures, c .before .gather .ensures, c .before .before .band-at .ensures, c .before .before .before .latches .ensures, c .before .before .before .before .before .before .before .before .before .forced .ensures)
+returns c = simp (c .settled .ensures, c .before .gather .ensures, c .before .before .pack-band .ensures, c .before .before .before .latches .ensures, c .before .before .before .before .before .before .before .before .before .forced .ensures)
 
 pub settle-spec : {M : Type 1} → statement M
 settle-spec =

@@ -22,40 +22,40 @@ returns-4 c = simp (c .enum-told .given .1)
 
 returns-5 : tie.Need-returns-5
 unfolding turnOf
-returns-5 c = simp (c .held-sample .ensures, c .before .before .before .before .e4 .given .1, ← c .before .before .sample-in-range .ensures, c .before .if1 .taken)
+returns-5 c = simp (c .observes-with .ensures, c .before .before .e4 .given .1)
 
 returns-6 : tie.Need-returns-6
 unfolding turnOf
-returns-6 c = simp (c .before .before .before .e4 .given .1, ← c .before .sample-in-range .ensures, c .if1 .left)
+returns-6 c = simp (c .enum-told2 .given .1)
 
 returns-7 : tie.Need-returns-7
 unfolding turnOf
-returns-7 c = simp (c .enum-told2 .given .1)
+returns-7 c = simp (c .enum-told3 .given .1)
 
 returns-8 : tie.Need-returns-8
 unfolding turnOf
-returns-8 c = simp (c .enum-told3 .given .1)
+returns-8 c =
+    let r = c .before .before .before in
+    simp (c .opens-with2 .ensures, c .before .coded .ensures, r .before .before .e5 .given .1, ← r .resistors-in-range .ensures, c .before .before .if1 .taken)
 
 returns-9 : tie.Need-returns-9
 unfolding turnOf
-returns-9 c =
-    let r = c .before .before .before in
-    simp (c .opens-with2 .ensures, c .before .coded .ensures, r .before .before .e5 .given .1, ← r .resistors-in-range .ensures, c .before .before .if2 .taken)
+returns-9 c = simp (c .before .before .before .e5 .given .1, ← c .before .resistors-in-range .ensures, c .if1 .left)
 
 returns-10 : tie.Need-returns-10
 unfolding turnOf
-returns-10 c = simp (c .before .before .before .e5 .given .1, ← c .before .resistors-in-range .ensures, c .if2 .left)
+returns-10 c = simp (c .observes-with2 .ensures, c .before .before .before .e6 .given .1)
 
 returns-11 : tie.Need-returns-11
 unfolding turnOf
-returns-11 c = simp (c .before .e6 .given .1)
+returns-11 c = simp (c .before .e7 .given .1)
 
 returns-12 : tie.Need-returns-12
 unfolding turnOf
-returns-12 c = simp (c .before .e7 .given .1)
+returns-12 c = simp (c .before .e8 .given .1)
 
 pub turn-of-spec : {M : Type 1} → statement M
 turn-of-spec =
     tie.close
-    (tie.spec (λ c. search needs) (λ c κs. tt) (λ c. search needs) (λ c. search needs) (λ c. search needs) (λ c. search needs) (λ c κs. tt) (λ c κs. tt) (λ c. search needs) (λ c. search needs) (λ c. search needs) (λ c κs. tt) (λ c κs. tt) (λ c κs. tt) (λ c. search needs) (λ c. search needs)
+    (tie.spec (λ c. search needs) (λ c κs. tt) (λ c. search needs) (λ c. search needs) (λ c. search needs) (λ c. search needs) (λ c κs. tt) (λ c. search needs) (λ c. search needs) (λ c. search needs) (λ c κs. tt) (λ c κs. tt) (λ c κs. tt) (λ c. search needs) (λ c κs. tt) (λ c. search needs) (λ c. search needs)
     returns returns-2 returns-3 returns-4 returns-5 returns-6 returns-7 returns-8 returns-9 returns-10 returns-11 returns-12)
