@@ -37,9 +37,9 @@
  * Stack, in bytes along the deepest chain of calls, return addresses included, by the archive's object code. No call
  * calls itself. `make test` holds the archive to these figures, 64 bytes more or less.
  *
- *     event 1,736    play     1,704    replay 1,640
- *     report  592    register   616    compare  512
- *     write   432    off        272    rules      8
+ *     event 1,768    play     1,736    replay 1,672
+ *     report  596    register   616    compare  528
+ *     write   448    off        280    rules      8
  */
 #ifndef CHEUKDANE_H
 #define CHEUKDANE_H
@@ -63,15 +63,16 @@ typedef char cheukdane_size_t_has_64_bits[sizeof(size_t) == 8 ? 1 : -1];
  *   3  the place of 1, 2 and 3 is that of the byte that decided it, and not the record's start; replay tells `next`
  *   4  kind 9 is a power-on by its resistors, and not 4
  *   5  the model holds the stored fields of the whole register map, and every address can be read
- *   6  kind 8 is a run of written bytes and kind 14 a read of a flag register, and neither is 4 */
-#define CHEUKDANE_RULES 6
+ *   6  kind 8 is a run of written bytes and kind 14 a read of a flag register, and neither is 4
+ *   7  kind 10 is an observation of two thermistors, and not 4 */
+#define CHEUKDANE_RULES 7
 
 /* ---- Images ---- */
 
 /* The format of an image: it moves with the rules, so that no model is carried over from other rules. It is never 0. */
-#define CHEUKDANE_FORMAT 6
+#define CHEUKDANE_FORMAT 7
 
-/* Bytes of an image: 55 words. Word 0 is 0 before a power-on, and then all other words are 0 too; after it, it is the
+/* Bytes of an image: 56 words. Word 0 is 0 before a power-on, and then all other words are 0 too; after it, it is the
  * format's number, CHEUKDANE_FORMAT, and the state's numbers follow, from these words on; a yes or no is 1 or 0. So
  * zeroed bytes are the image of a model that is off, in every format. Every model has exactly one image, and bytes are
  * an image only if they are a model's: another format, a yes or no above 1, or a phase, band or flags that aren't, make
@@ -82,17 +83,18 @@ typedef char cheukdane_size_t_has_64_bits[sizeof(size_t) == 8 ? 1 : -1];
  * no checksum: bytes that were changed in storage load if they are some model's image, so whoever stores an image keeps
  * a checksum beside it. An image of another format, an older one too, is 5: such a head starts from zeroed bytes and
  * replays the log. */
-#define CHEUKDANE_IMAGE 220
+#define CHEUKDANE_IMAGE 224
 #define CHEUKDANE_PROFILE 1    /* a power-on's ten numbers, in kind 1's order; of kind 9 the codes, not the ohms */
 #define CHEUKDANE_SETTINGS 11  /* settings 1 to 14 */
 #define CHEUKDANE_REGISTERS 25 /* ten words, the stored fields of 0x00 to 0x27, four addresses to a word; CELL_PIN */
 #define CHEUKDANE_LATCHES 36   /* VIN ok, VIN over, short, low, battery over */
 #define CHEUKDANE_CYCLE 41     /* trickle, precharge and fast time in half milliseconds; done */
 #define CHEUKDANE_WATCHDOG 45  /* milliseconds since it was zeroed, at most its period */
-#define CHEUKDANE_SAMPLE 46    /* the last observation's six numbers, in the log's order; its stamp is the last stamp */
-#define CHEUKDANE_PHASE 52     /* 0 to 7 */
-#define CHEUKDANE_BAND 53      /* 0 normal, 1 cold, 2 hot, 3 cool, 4 warm */
-#define CHEUKDANE_FLAGS 54     /* the held flags, bits 0 to 11 */
+#define CHEUKDANE_SAMPLE 46    /* the last observation's seven numbers, in kind 10's order, of kind 5 its TS twice; its
+                                  stamp is the last stamp */
+#define CHEUKDANE_PHASE 53     /* 0 to 7 */
+#define CHEUKDANE_BAND 54      /* 0 normal, 1 cold, 2 hot, 3 cool, 4 warm, 7 mixed; 5 and 6 are none */
+#define CHEUKDANE_FLAGS 55     /* the held flags, bits 0 to 11 */
 
 /* ---- Names for the paper's numbers ---- */
 
@@ -106,12 +108,15 @@ enum {
     CHEUKDANE_KIND_SET = 2,        /* setting number, value */
     CHEUKDANE_KIND_WRITE = 3,      /* register address, byte */
     CHEUKDANE_KIND_TAKE_FLAGS = 4, /* no numbers; hands back the held flags and clears them */
-    CHEUKDANE_KIND_OBSERVE = 5,    /* stamp; VIN, VBAT in mV; IBAT as CHEUKDANE_IBAT gives it; TS; sample bits */
+    CHEUKDANE_KIND_OBSERVE = 5,    /* stamp; VIN, VBAT in mV; IBAT as CHEUKDANE_IBAT gives it; TS, which stands for both
+                                      thermistors; sample bits */
     CHEUKDANE_KIND_SERVICE = 6,    /* no numbers; services the watchdog */
     CHEUKDANE_KIND_RESET = 7,      /* no numbers; resets the registers */
     CHEUKDANE_KIND_WRITE_RUN = 8,  /* a run of written bytes: first address, length 1 to 32, raw bytes; as words they
                                       are laid out by cheukdane_put_run */
     CHEUKDANE_KIND_POWER_ON_RESISTORS = 9, /* as 1, with the CELL, VCHG and ICHG resistors in ohms for the codes */
+    CHEUKDANE_KIND_OBSERVE_TWO = 10, /* as 5, with the second thermistor's TS right after the first's; with two equal
+                                        ones it does what 5 does */
     CHEUKDANE_KIND_READ_FLAGS = 14 /* address of a flag register, 0x20 or 0x21; hands back its byte and clears its own
                                       flags */
 };
@@ -151,13 +156,17 @@ enum {
     CHEUKDANE_PHASE_FAULT = 7
 };
 
-/* Bands of the battery's temperature. */
+/* Bands of the battery's temperature. Each of the two thermistors is in one of 0 to 4, by its TS and the registers 0x18
+ * and 0x19. The band of both is cold if either is, else hot if either is; else mixed if one is cool and the other warm;
+ * else that of the one that isn't normal, and normal if both are. Mixed suspends a charge, as cold and hot do, whatever
+ * 0x19 says of cool and warm. CHEUKDANE_FLAG_BAND is a change of this band, and TS_STAT, 0x1E bits 2:0, its number. */
 enum {
     CHEUKDANE_BAND_NORMAL = 0,
     CHEUKDANE_BAND_COLD = 1,
     CHEUKDANE_BAND_HOT = 2,
     CHEUKDANE_BAND_COOL = 3,
-    CHEUKDANE_BAND_WARM = 4
+    CHEUKDANE_BAND_WARM = 4,
+    CHEUKDANE_BAND_MIXED = 7 /* one thermistor is cool and the other warm */
 };
 
 /* STAT. */

@@ -54,6 +54,7 @@ void show_two_heads(void);
 void show_bad_images(void);
 void show_refusals(void);
 void show_resistors(void);
+void show_thermistors(void);
 void show_registers(void);
 void show_runs(void);
 

@@ -15,6 +15,7 @@ static const struct event MORNING[] = {
     {CHEUKDANE_KIND_READ_FLAGS, 1, {0x20}},
     {CHEUKDANE_KIND_SERVICE, 0, {0}},
     {CHEUKDANE_KIND_TAKE_FLAGS, 0, {0}},
+    {CHEUKDANE_KIND_OBSERVE_TWO, 7, {90000, 12000, 7900, 1800, 69000, 44000, 0}},
     {CHEUKDANE_KIND_OBSERVE, 6, {120000, 12000, 8395, 1000, 55000, 0}},
     {CHEUKDANE_KIND_OBSERVE, 6, {180000, 12000, 8400, 1, 55000, 0}},
     {CHEUKDANE_KIND_SET, 2, {14, 4095}},
@@ -51,7 +52,7 @@ static void two_heads_in_step(void) {
 
 static void a_charge_is_seen(void) {
     int before = failures;
-    const uint32_t phases[EVENTS] = {0, 1, 2, 2, 3, 3, 3, 3, 3, 3, 3, 4, 5, 5, 0, 7, 7, 7};
+    const uint32_t phases[EVENTS] = {0, 1, 2, 2, 3, 3, 3, 3, 3, 3, 3, 6, 4, 5, 5, 0, 7, 7, 7};
     struct head head;
     uint8_t show[CHEUKDANE_SHOWN];
     uint32_t held = 0;
@@ -65,7 +66,7 @@ static void a_charge_is_seen(void) {
         }
         held = cheukdane_word(show, CHEUKDANE_SHOWN_FLAGS);
     }
-    shown(before, "a charge goes from short to done, and a fault ends the next");
+    shown(before, "a charge goes from short to done, suspended once, and a fault ends the next");
 }
 
 /* The two logs are compared and the rest of the longer is played; both images are then equal. */
@@ -137,10 +138,45 @@ static void heads_by_codes_and_by_resistors(void) {
     shown(before, "a head powered on by resistors is in step with one by codes");
 }
 
+/* The event of two equal thermistors that stands for a morning's event of one; any other event as it is. */
+static struct event of_two(const struct event *event) {
+    struct event two = *event;
+    if (event->kind == CHEUKDANE_KIND_OBSERVE) {
+        two.kind = CHEUKDANE_KIND_OBSERVE_TWO;
+        two.count = 7;
+        two.numbers[5] = event->numbers[4];
+        two.numbers[6] = event->numbers[5];
+    }
+    return two;
+}
+
+/* One head's pack has one thermistor and the other's has two that are equal. */
+static void heads_of_one_thermistor_and_of_two(void) {
+    int before = failures;
+    struct head one, other, late;
+    uint8_t show[CHEUKDANE_SHOWN], by_two[CHEUKDANE_SHOWN];
+    start(&one);
+    start(&other);
+    for (size_t at = 0; at < EVENTS; at++) {
+        struct event two = of_two(&MORNING[at]);
+        holds(does(&one, &MORNING[at], show) == 0, "the head of one thermistor accepts each event");
+        holds(does(&other, &two, by_two) == 0, "and so does the head of two");
+        holds(same(one.image, other.image, sizeof one.image), "their images are equal after each event");
+        holds(same(show, by_two, sizeof show), "and what they show is");
+    }
+    struct cheukdane_compared answer = cheukdane_compare(one.log, one.length, other.log, other.length);
+    holds(answer.number == CHEUKDANE_REFUSED_LOGS_PART && answer.record == 2, "their logs part at the first observation");
+    start(&late);
+    play(&late, other.log, other.length, 0);
+    holds(same(one.image, late.image, sizeof one.image), "a head that plays the log of two is in step with both");
+    shown(before, "a head of two equal thermistors is in step with one of one");
+}
+
 void show_two_heads(void) {
     two_heads_in_step();
     a_charge_is_seen();
     a_head_catches_up();
     heads_that_part();
     heads_by_codes_and_by_resistors();
+    heads_of_one_thermistor_and_of_two();
 }

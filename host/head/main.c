@@ -8,6 +8,7 @@ int main(void) {
     show_bad_images();
     show_refusals();
     show_resistors();
+    show_thermistors();
     show_registers();
     show_runs();
     return failures != 0;

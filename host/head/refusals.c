@@ -41,7 +41,9 @@ static const struct {
     {{CHEUKDANE_KIND_SERVICE, 14, 0xA0, 0x80, 0x80, 0x80, 0x80, 0x00, 0x00}, CHEUKDANE_REFUSED_TOO_LARGE, 6},
     {{CHEUKDANE_KIND_SERVICE, 9, 0x98, 0x2F, 0x84, 0x6B, 0x84, 0x52, 0x00}, CHEUKDANE_REFUSED_ENDS_INSIDE, 9},
     {{CHEUKDANE_KIND_SERVICE, 9, 0x98, 0x2F, 0x84, 0xEB, 0x00, 0x84, 0x52}, CHEUKDANE_REFUSED_ZERO_GROUP, 6},
-    {{CHEUKDANE_KIND_SERVICE, 10, 0x80, 0x00, 0x80, 0x00, 0x00, 0x00, 0x00}, CHEUKDANE_REFUSED_UNKNOWN_KIND, 1},
+    {{CHEUKDANE_KIND_SERVICE, 10, 1, 2, 3, 4, 5, 6, 0x80}, CHEUKDANE_REFUSED_ENDS_INSIDE, 9},
+    {{CHEUKDANE_KIND_SERVICE, 10, 1, 2, 3, 4, 5, 0x86, 0x00}, CHEUKDANE_REFUSED_ZERO_GROUP, 8},
+    {{CHEUKDANE_KIND_SERVICE, 18, 0x80, 0x00, 0x80, 0x00, 0x00, 0x00, 0x00}, CHEUKDANE_REFUSED_UNKNOWN_KIND, 1},
 };
 
 static void bytes_that_decide(void) {
@@ -117,7 +119,8 @@ static void short_records(void) {
     holds(cheukdane_write(0, NULL, 0, out, sizeof out).number == 4, "kind 0 is 4");
     holds(cheukdane_write(8, NULL, 0, out, sizeof out).number == 5, "a run without words is 5");
     holds(cheukdane_write(14, NULL, 0, out, sizeof out).number == 5, "and so is a read of no address");
-    holds(cheukdane_write(10, NULL, 0, out, sizeof out).number == 4, "kind 10 is 4");
+    holds(cheukdane_write(18, NULL, 0, out, sizeof out).number == 4, "kind 18 is 4");
+    holds(cheukdane_write(10, words, 24, out, sizeof out).number == 5, "an observation of two of six numbers is 5");
     holds(cheukdane_write(9, words, 36, out, sizeof out).number == 5, "a power-on by resistors of nine numbers is 5");
     holds(cheukdane_write(2, words, 4, out, sizeof out).number == 5, "a set of one number is 5");
     shown(before, "record buffers of every length, and events that aren't");
@@ -139,8 +142,10 @@ static void refusals(void) {
         {3, 2, {0x15, 256}},
         {3, 2, {0x16, 7}},
         {5, 6, {3601001, 0, 0, 0, 0, 0}},
+        {CHEUKDANE_KIND_OBSERVE_TWO, 7, {3601001, 0, 0, 0, 0, 0, 0}},
+        {CHEUKDANE_KIND_OBSERVE_TWO, 7, {1000, 0, 0, 0, 55000, 100001, 0}},
     };
-    const uint32_t numbers[] = {5, 5, 5, 5, 5, 8, 9, 10, 5, 11, 7};
+    const uint32_t numbers[] = {5, 5, 5, 5, 5, 8, 9, 10, 5, 11, 7, 7, 5};
     struct head head;
     uint8_t show[CHEUKDANE_SHOWN], kept[CHEUKDANE_IMAGE], words[40], record[CHEUKDANE_RECORD];
     start(&head);

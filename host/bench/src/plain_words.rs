@@ -6,7 +6,7 @@ use library::layout::{
     BAND, CYCLE, FLAGS, FORMAT, IMAGE_WORDS, LATCHES, PHASE, PROFILE, REGISTERS, SAMPLE, SETTINGS,
     WATCHDOG, WORD,
 };
-use reference::event::Sample;
+use reference::event::{Sample, TwoSample};
 use reference::number::{fold, unfold};
 use reference::pins::Pins;
 use reference::settings::Settings;
@@ -64,7 +64,7 @@ pub fn of(powered: &Powered) -> Words {
     put(&mut words, CYCLE, [trickle, precharge, fast, u32::from(cycle.done)]);
     words[WATCHDOG] = state.watchdog;
     let Sample { stamp, vin, vbat, ibat, ts, bits } = *sample;
-    put(&mut words, SAMPLE, [stamp, vin, vbat, fold(ibat), ts, bits]);
+    put(&mut words, SAMPLE, [stamp, vin, vbat, fold(ibat), ts, state.second, bits]);
     words[PHASE] = state.phase;
     words[BAND] = *band;
     words[FLAGS] = state.flags;
@@ -76,6 +76,7 @@ pub fn of(powered: &Powered) -> Words {
 pub fn powered(words: &Words) -> Powered {
     let [cell, vchg, ichg, ohms, stamp, ceiling, trickle, precharge, fast, period] =
         part(words, PROFILE);
+    let TwoSample { sample, second } = sample(part(words, SAMPLE));
     let state = State {
         pins: Pins { cell: words[CELL_PIN], vchg, ichg },
         ohms,
@@ -87,11 +88,12 @@ pub fn powered(words: &Words) -> Powered {
         comparators: comparators(part(words, LATCHES)),
         cycle: cycle(part(words, CYCLE)),
         watchdog: words[WATCHDOG],
-        sample: sample(part(words, SAMPLE)),
+        sample,
+        second,
         phase: words[PHASE] % 8,
         flags: words[FLAGS] % (1 << 12),
     };
-    Powered { cell, stamp, band: words[BAND] % 5, state }
+    Powered { cell, stamp, band: band(words[BAND]), state }
 }
 
 fn bit(word: u32) -> bool {
@@ -121,6 +123,15 @@ fn cycle([trickle, precharge, fast, done]: [u32; 4]) -> Cycle {
     Cycle { times: PerStage { trickle, precharge, fast }, done: bit(done) }
 }
 
-fn sample([stamp, vin, vbat, ibat, ts, bits]: [u32; 6]) -> Sample {
-    Sample { stamp, vin, vbat, ibat: unfold(ibat), ts, bits }
+fn sample([stamp, vin, vbat, ibat, ts, second, bits]: [u32; 7]) -> TwoSample {
+    TwoSample { sample: Sample { stamp, vin, vbat, ibat: unfold(ibat), ts, bits }, second }
+}
+
+/// 0 to 4 and 7 are bands.
+fn band(word: u32) -> u32 {
+    if word == 7 {
+        7
+    } else {
+        word % 5
+    }
 }

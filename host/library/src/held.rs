@@ -110,15 +110,22 @@ fn codes(pins: &Pins) -> Pins {
     Pins { vchg: pins.vchg % 8, ichg: pins.ichg % 8, ..*pins }
 }
 
-/// The state with a TS, and thresholds, that make its band the held one. The
-/// report and 0x1E depend on them through the band alone.
+/// The state with TS values, and thresholds, that make its band the held one.
+/// The report and 0x1E depend on them through the band alone.
 fn in_held_band(powered: &Powered) -> State {
     let state = powered.state;
-    let ts = [55_000, 100_000, 0, 70_000, 40_000][powered.band as usize];
+    let (ts, second) = match powered.band {
+        1 => (100_000, 100_000),
+        2 => (0, 0),
+        3 => (70_000, 70_000),
+        4 => (40_000, 40_000),
+        7 => (70_000, 40_000),
+        _ => (55_000, 55_000),
+    };
     let mut bytes = state.stored.0;
     bytes[0x18] = Stored::at_power_on().0[0x18];
     bytes[0x19] |= 3;
-    State { stored: Stored(bytes), sample: Sample { ts, ..state.sample }, ..state }
+    State { stored: Stored(bytes), sample: Sample { ts, ..state.sample }, second, ..state }
 }
 
 /// A register's byte, TS_STAT by the held band.

@@ -87,7 +87,7 @@ fn words(powered: &Powered) -> Vec<u32> {
     words.extend(stages(&state.cycle.times));
     words.extend([u32::from(state.cycle.done), state.watchdog]);
     let Sample { stamp, vin, vbat, ibat, ts, bits } = state.sample;
-    words.extend([stamp, vin, vbat, fold(ibat), ts, bits]);
+    words.extend([stamp, vin, vbat, fold(ibat), ts, state.second, bits]);
     words.extend([state.phase, *band, state.flags]);
     words
 }

@@ -2,15 +2,15 @@
 //! words stand.
 
 /// The number of the rules.
-pub const RULES: u32 = 6;
+pub const RULES: u32 = 7;
 /// The format of an image: word 0 of a model that is on.
-pub const FORMAT: u32 = 6;
+pub const FORMAT: u32 = 7;
 /// Bytes of a word.
 pub const WORD: usize = 4;
 /// Words of an image.
-pub const IMAGE_WORDS: usize = 55;
+pub const IMAGE_WORDS: usize = 56;
 /// Bytes of an image.
-pub const IMAGE: usize = 220;
+pub const IMAGE: usize = 224;
 /// The word of an image at which the power-on's ten numbers start, as kind 1
 /// has them.
 pub const PROFILE: usize = 1;
@@ -25,14 +25,14 @@ pub const LATCHES: usize = 36;
 pub const CYCLE: usize = 41;
 /// The word of the watchdog's count.
 pub const WATCHDOG: usize = 45;
-/// The word at which the sample's six numbers start.
+/// The word at which the sample's seven numbers start, as kind 10 has them.
 pub const SAMPLE: usize = 46;
 /// The word of the phase.
-pub const PHASE: usize = 52;
+pub const PHASE: usize = 53;
 /// The word of the band.
-pub const BAND: usize = 53;
+pub const BAND: usize = 54;
 /// The word of the held flags.
-pub const FLAGS: usize = 54;
+pub const FLAGS: usize = 55;
 /// Bytes of what an accepted event shows.
 pub const SHOWN: usize = 28;
 /// Bytes of a report.

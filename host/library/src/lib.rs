@@ -6,7 +6,8 @@
 //! * [`image`]: a reference model as the bytes of an image, and back (`words`).
 //! * [`expected`]: the same calls, answered by the reference; `held` has what
 //!   it says of a model that an image holds.
-//! * [`both`]: a call made of both on equal bytes, which must agree.
+//! * [`both`]: a call made of both on equal bytes, which must agree; [`left`]:
+//!   what an event leaves, by each call that takes it.
 //! * [`tally`]: which answers a test has met.
 
 #![warn(missing_docs)]
@@ -19,5 +20,6 @@ pub mod given;
 mod held;
 pub mod image;
 pub mod layout;
+pub mod left;
 pub mod tally;
 mod words;

@@ -2,7 +2,7 @@
 
 use crate::image::Powered;
 use crate::layout::WORD;
-use reference::event::Sample;
+use reference::event::{Sample, TwoSample};
 use reference::number::unfold;
 use reference::pins::Pins;
 use reference::settings::Settings;
@@ -54,9 +54,9 @@ impl<'words> Words<'words> {
         let comparators = self.comparators()?;
         let cycle = Cycle { times: self.stages(), done: self.bit()? };
         let watchdog = self.number();
-        let sample = self.sample();
+        let TwoSample { sample, second } = self.sample();
         let phase = self.below(8)?;
-        let band = self.below(5)?;
+        let band = self.band()?;
         let flags = self.below(1 << 12)?;
         let state = State {
             pins,
@@ -70,6 +70,7 @@ impl<'words> Words<'words> {
             cycle,
             watchdog,
             sample,
+            second,
             phase,
             flags,
         };
@@ -104,14 +105,15 @@ impl<'words> Words<'words> {
         })
     }
 
-    fn sample(&mut self) -> Sample {
-        Sample {
-            stamp: self.number(),
-            vin: self.number(),
-            vbat: self.number(),
-            ibat: unfold(self.number()),
-            ts: self.number(),
-            bits: self.number(),
-        }
+    fn sample(&mut self) -> TwoSample {
+        let (stamp, vin, vbat) = (self.number(), self.number(), self.number());
+        let ibat = unfold(self.number());
+        let (ts, second, bits) = (self.number(), self.number(), self.number());
+        TwoSample { sample: Sample { stamp, vin, vbat, ibat, ts, bits }, second }
+    }
+
+    /// 5 and 6 are no bands.
+    fn band(&mut self) -> Option<u32> {
+        Some(self.number()).filter(|word| matches!(word, 0..=4 | 7))
     }
 }

@@ -8,7 +8,7 @@ use library::layout::{IMAGE, RECORD, REPORT, SHOWN};
 use library::tally::Tally;
 use reference::generate::{any_event, any_state, events_of, times, unspelled_run, Rng};
 use reference::record::encode;
-use reference::{Event, Run, Sample};
+use reference::{Event, Run, Sample, TwoSample};
 
 fn any_image(rng: &mut Rng) -> Vec<u8> {
     let state = any_state(rng);
@@ -74,11 +74,12 @@ fn long_buffers() {
 #[test]
 fn a_short_buffer_comes_after_the_image_and_before_all_else() {
     let mut tally = Tally::default();
-    let logs: [&[u8]; 8] = [
+    let logs: [&[u8]; 9] = [
         &[],
         &[8, 5, 0],
         &[9],
         &[10],
+        &[18],
         &[2],
         &[2, 0x80, 0],
         &[4],
@@ -89,7 +90,7 @@ fn a_short_buffer_comes_after_the_image_and_before_all_else() {
             tally.count(both::play(&mut [0; IMAGE], log, 0, &mut buffer(length)).number);
             assert_eq!(both::play(&mut [2; IMAGE], log, 0, &mut buffer(length)).number, 5);
         }
-        for kind in [0, 1, 4, 8, 9, 10, 14, 256] {
+        for kind in [0, 1, 4, 8, 9, 10, 14, 18, 256] {
             tally.count(both::event(&mut [0; IMAGE], kind, &[], &mut buffer(length)).number);
             assert_eq!(both::event(&mut [2; IMAGE], kind, &[], &mut buffer(length)).number, 5);
         }
@@ -152,6 +153,8 @@ fn records_of_every_width() {
             let ibat = reference::number::unfold(value);
             let sample = Sample { stamp: value, vin: 0, vbat: value, ibat, ts: 0, bits: value };
             write_at_every_length(&Event::Observe(sample), &mut tally);
+            let two = TwoSample { sample, second: value };
+            write_at_every_length(&Event::ObserveTwo(two), &mut tally);
         }
     }
     tally.met_exactly([0, 12]);

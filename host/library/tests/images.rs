@@ -9,6 +9,9 @@ use reference::generate::{any_event, any_state, plausible_events, spoiled_state,
 use reference::record::encode;
 use reference::{Event, Model};
 
+/// The words of an image that are bands.
+const BANDS: [u32; 6] = [0, 1, 2, 3, 4, 7];
+
 /// Lends the bytes to every call that takes an image; gives the answers of
 /// play, event, report and a register's read.
 fn lend(bytes: &[u8], event: &Event) -> [u32; 4] {
@@ -86,7 +89,7 @@ fn any_bytes_are_made_off() {
 
 /// Words near a word, at the ends of every field's type, and any.
 fn damages(rng: &mut Rng, held: u32) -> Vec<u32> {
-    let mut words = vec![0, 1, 2, 4, 5, 7, 8, 255, 256, 4_095, 4_096, 1 << 31, u32::MAX];
+    let mut words = vec![0, 1, 2, 4, 5, 6, 7, 8, 255, 256, 4_095, 4_096, 1 << 31, u32::MAX];
     words.extend([held.wrapping_add(1), held.wrapping_sub(1), held ^ 0x0100_0000]);
     words.extend([held + (held == 0) as u32 * 2, held.wrapping_mul(2), held / 2]);
     words.extend([held ^ 1 << rng.within(0, 31), rng.any(), rng.any_length()]);
@@ -192,6 +195,17 @@ fn a_cell_code_above_seven() {
     assert_eq!(lend(&bytes, &Event::Service), [5, 5, 0, 0]);
 }
 
+/// With another word for the band the bytes are no image.
+#[test]
+fn every_word_of_a_band() {
+    let bytes = image::of(&Held::On(run(5, 40)));
+    let far = (0..32).flat_map(|bit| [0, 4, 7].map(|low| (1u32 << bit).wrapping_add(low)));
+    for word in (0..=300).chain(far).chain([u32::MAX]) {
+        let wanted = if BANDS.contains(&word) { [0; 4] } else { [5; 4] };
+        assert_eq!(lend(&with_word(&bytes, BAND, word), &Event::TakeFlags), wanted, "{word}");
+    }
+}
+
 /// The band is held: flag 7 is between it and the band after the event, and
 /// the report is by it.
 #[test]
@@ -199,7 +213,7 @@ fn a_band_that_is_not_the_samples() {
     let mut rng = Rng::new(11);
     for round in 0..times(10_000) {
         let bytes = image::of(&Held::On(run(round % 1_000, 25)));
-        for band in 0..5 {
+        for band in BANDS {
             let other = with_word(&bytes, BAND, band);
             lend(&other, &any_event(&mut rng));
             lend(&other, &Event::TakeFlags);

@@ -10,7 +10,7 @@ use reference::generate::{
     any_event, any_log, any_state, damaged_log, plausible_log, spoiled_state, times, Rng,
 };
 use reference::record::{self, Reading};
-use reference::{Event, Sample};
+use reference::Event;
 
 /// A head that plays a log, and the reference's own run beside it.
 struct Head {
@@ -107,8 +107,9 @@ fn any_powered(rng: &mut Rng) -> Powered {
 /// A sample at a gap of time that passes or just doesn't.
 fn sample_after(rng: &mut Rng, powered: &Powered) -> Event {
     let ahead = rng.pick(&[0, 1, 1_000, 3_599_999, 3_600_000, 3_600_001]);
-    let stamp = powered.state.sample.stamp.wrapping_add(ahead);
-    Event::Observe(Sample { stamp, ..any_state(rng).sample })
+    let mut two = any_state(rng).observed();
+    two.sample.stamp = powered.state.sample.stamp.wrapping_add(ahead);
+    rng.pick(&[Event::Observe(two.sample), Event::ObserveTwo(two)])
 }
 
 #[test]
@@ -143,7 +144,7 @@ fn single_records_on_models_that_do_not_pass() {
 fn unreadable_records_on_models_that_do_not_pass() {
     let mut rng = Rng::new(6);
     let mut tally = Tally::default();
-    let unreadable: [&[u8]; 9] = [
+    let unreadable: [&[u8]; 10] = [
         &[2],
         &[2, 0x80, 0x00],
         &[2, 0x80, 0x80, 0x80, 0x80, 0x10],
@@ -151,7 +152,8 @@ fn unreadable_records_on_models_that_do_not_pass() {
         &[8],
         &[8, 0x10, 0x00, 1],
         &[8, 0x10, 0x21, 1],
-        &[10],
+        &[10, 1, 1, 1, 1, 1, 1],
+        &[18],
         &[0],
     ];
     for _ in 0..times(10_000) {

@@ -5,7 +5,7 @@ use reference::generate::events_of;
 use reference::map::FIELDS;
 use reference::pins::code_of;
 use reference::state::phase;
-use reference::{edges, event, Event, Refusal, Run, Sample, Setting};
+use reference::{edges, event, Band, Event, Refusal, Run, Sample, Setting};
 
 const HEADER: &str = include_str!("../../../include/cheukdane.h");
 
@@ -101,6 +101,7 @@ fn kinds() {
         ("RESET", Event::Reset),
         ("WRITE_RUN", Event::WriteRun(Run::new(0x15, &[0]))),
         ("POWER_ON_RESISTORS", power_on(9)),
+        ("OBSERVE_TWO", Event::ObserveTwo(Sample::at_power_on(0).of_two())),
         ("READ_FLAGS", Event::ReadFlags { address: 0x20 }),
     ];
     are("KIND_", &wanted.map(|(name, event)| (name, event.kind().into())));
@@ -141,7 +142,15 @@ fn phases_bands_and_stat() {
         ("FAULT", phase::FAULT),
     ];
     are("PHASE_", &phases);
-    are("BAND_", &[("NORMAL", 0), ("COLD", 1), ("HOT", 2), ("COOL", 3), ("WARM", 4)]);
+    let bands = [
+        ("NORMAL", Band::Normal),
+        ("COLD", Band::Cold),
+        ("HOT", Band::Hot),
+        ("COOL", Band::Cool),
+        ("WARM", Band::Warm),
+        ("MIXED", Band::Mixed),
+    ];
+    are("BAND_", &bands.map(|(name, band)| (name, band.number())));
     are("STAT_", &[("LOW", 0), ("BLINKING", 1), ("HIGH", 2)]);
 }
 

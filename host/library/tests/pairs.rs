@@ -82,7 +82,7 @@ fn a_log_and_one_with_a_byte_changed() {
 
 /// A sixth record that can't be read, its number, and the place of what
 /// decided it, from the record's start; the last can be read, to its end.
-const SIXTH: [(&[u8], u32, u64); 11] = [
+const SIXTH: [(&[u8], u32, u64); 12] = [
     (&[2], 1, 1),
     (&[2, 1, 0x80], 1, 3),
     (&[9], 1, 1),
@@ -92,7 +92,8 @@ const SIXTH: [(&[u8], u32, u64); 11] = [
     (&[8, 5, 1], 1, 3),
     (&[8, 5, 0, 1], 5, 2),
     (&[8, 0x85, 1, 0x80, 1], 5, 3),
-    (&[10], 4, 0),
+    (&[10, 1, 2, 3, 4, 5, 6], 1, 7),
+    (&[18], 4, 0),
     (&[2, 1, 1], 0, 3),
 ];
 

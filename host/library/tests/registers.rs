@@ -145,7 +145,7 @@ fn every_address_of_any_model() {
         let state = any_state(&mut rng);
         let image = image::of(&Held::On(Powered::new(rng.within(0, 7), rng.any(), state)));
         read_all(&image).met_exactly([0]);
-        for band in 0..5 {
+        for band in [0, 1, 2, 3, 4, 7] {
             assert_eq!(byte(&with_word(&image, BAND, band), 0x1E), band);
         }
     }

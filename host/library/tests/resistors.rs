@@ -3,13 +3,15 @@
 //! are compared as they are.
 
 use library::both;
-use library::image::{self, Held, Powered};
 use library::layout::{bytes_of, FORMAT, IMAGE, PROFILE, SHOWN, WORD};
+use library::left::{
+    any_image, by_each, each_apart, each_misspelled, given, played, replayed, written, Left,
+};
 use library::tally::Tally;
-use reference::generate::{any_resistors, any_state, spoiled_state, times, Rng};
+use reference::generate::{any_resistors, times, Rng};
 use reference::pins::{code_of, RESISTORS};
 use reference::record::numbers_of;
-use reference::{number, Event};
+use reference::Event;
 
 const BY_CODES: u32 = 1;
 const BY_RESISTORS: u32 = 9;
@@ -23,39 +25,6 @@ const WITH_CODES: [u32; 10] = [2, 5, 4, 3_333, 77, 4_500, 3_600, 7_200, 36_000, 
 fn with(mut numbers: [u32; 10], index: usize, value: u32) -> [u32; 10] {
     numbers[index] = value;
     numbers
-}
-
-/// What an event leaves: its answer, the image, and what it shows.
-type Left = (u32, Vec<u8>, [u8; SHOWN]);
-
-fn given(image: &[u8], kind: u32, numbers: &[u32]) -> Left {
-    let (mut image, mut shown) = (image.to_vec(), [0xEE; SHOWN]);
-    let answer = both::event(&mut image, kind, &bytes_of(numbers), &mut shown);
-    (answer.number, image, shown)
-}
-
-/// The same by its record, which is written and played.
-fn played(image: &[u8], kind: u32, numbers: &[u32]) -> Left {
-    let (mut image, mut shown) = (image.to_vec(), [0xEE; SHOWN]);
-    let record = written(kind, numbers);
-    let answer = both::play(&mut image, &record, 0, &mut shown);
-    assert_eq!((answer.kind, answer.next), (kind, record.len() as u64));
-    (answer.number, image, shown)
-}
-
-fn written(kind: u32, numbers: &[u32]) -> Vec<u8> {
-    let mut out = vec![0xEE; 60];
-    let answer = both::write(kind, &bytes_of(numbers), &mut out);
-    assert_eq!(answer.number, 0);
-    out.truncate(answer.count as usize);
-    out
-}
-
-fn replayed(image: &[u8], kind: u32, numbers: &[u32]) -> Vec<u8> {
-    let mut image = image.to_vec();
-    let answer = both::replay(&mut image, &written(kind, numbers), 0);
-    assert_eq!((answer.number, answer.code, answer.records), (0, 0, 1));
-    image
 }
 
 /// Each of the three pins' resistors over all ohms, from none to one too many.
@@ -73,16 +42,6 @@ fn every_ohm_of_every_pin() {
     }
 }
 
-/// The image of a model that is on and passes, is on and doesn't, or is off.
-fn any_image(rng: &mut Rng) -> Vec<u8> {
-    let state = if rng.once_in(6) { spoiled_state(rng) } else { any_state(rng) };
-    let on = image::of(&Held::On(Powered::new(rng.within(0, 7), rng.any(), state)));
-    if rng.once_in(6) || image::read(&on).is_none() {
-        return vec![0; IMAGE];
-    }
-    on
-}
-
 /// On any model, given, played and replayed: as kind 1 with the codes. What is
 /// refused leaves image and answer buffer.
 #[test]
@@ -93,9 +52,7 @@ fn as_kind_1_on_any_model() {
         let image = any_image(&mut rng);
         let event = Event::PowerOnResistors(any_resistors(&mut rng));
         let numbers = numbers_of(&event);
-        let left = given(&image, BY_RESISTORS, &numbers);
-        assert_eq!(left, played(&image, BY_RESISTORS, &numbers));
-        assert_eq!(left.1, replayed(&image, BY_RESISTORS, &numbers));
+        let left = by_each(&image, BY_RESISTORS, &numbers);
         let codes = numbers[..3].iter().map(|ohms| if *ohms > MOST { 8 } else { code_of(*ohms) });
         let with_codes: Vec<u32> = codes.chain(numbers[3..].iter().copied()).collect();
         assert_eq!(left, given(&image, BY_CODES, &with_codes));
@@ -180,38 +137,13 @@ fn logs_are_compared_as_they_are() {
     let mut logs = vec![written(BY_CODES, &WITH_CODES), written(BY_CODES, &NUMBERS)];
     logs.extend((0..3).map(|pin| written(BY_RESISTORS, &with(NUMBERS, pin, NUMBERS[pin] + 1))));
     logs.push(written(BY_RESISTORS, &NUMBERS));
-    for (at, first) in logs.iter().enumerate() {
-        for (index, second) in logs.iter().enumerate() {
-            let answer = both::compare(&[&[6], &first[..]].concat(), &[&[6], &second[..]].concat());
-            let wanted = if at == index { (0, 0) } else { (14, 2) };
-            assert_eq!((answer.number, answer.record), wanted);
-        }
-    }
+    each_apart(&logs);
 }
 
 /// Each number misspelled, in a record that is played, replayed and compared.
 #[test]
 fn numbers_that_cannot_be_read() {
-    let misspelled: [(&[u8], u32, usize); 4] = [
-        (&[], 1, 0),
-        (&[0x80], 1, 1),
-        (&[0x80, 0x00, 0x00], 2, 1),
-        (&[0xFF, 0xFF, 0xFF, 0xFF, 0x10], 3, 4),
-    ];
-    for count in 0..10 {
-        let mut start = vec![6, BY_RESISTORS as u8];
-        NUMBERS[..count].iter().for_each(|value| number::append(*value, &mut start));
-        for (end, wanted, place) in misspelled {
-            let log = [&start[..], end].concat();
-            let decided = (start.len() + place) as u64;
-            let answer = both::play(&mut [0; IMAGE], &log, 1, &mut [0xEE; SHOWN]);
-            assert_eq!((answer.number, answer.place, answer.next), (wanted, decided, 1));
-            let answer = both::replay(&mut [0; IMAGE], &log, 0);
-            assert_eq!((answer.code, answer.place, answer.next), (wanted, decided, 1));
-            let answer = both::compare(&[6, 6], &log);
-            assert_eq!((answer.number, answer.record, answer.place), (wanted, 2, decided));
-        }
-    }
+    each_misspelled(BY_RESISTORS as u8, &NUMBERS);
 }
 
 /// Resistors of the maker's table, each at all three pins.

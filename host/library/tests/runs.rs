@@ -4,11 +4,10 @@
 use library::answers::{Played, Replayed};
 use library::image::{self, Held, Powered};
 use library::layout::{IMAGE, RUN, SETTINGS, SHOWN, WORD};
+use library::left::any_image;
 use library::tally::Tally;
 use library::{both, given};
-use reference::generate::{
-    any_run, any_state, plausible_events, spoiled_state, times, unspelled_run, Rng,
-};
+use reference::generate::{any_run, any_state, plausible_events, times, unspelled_run, Rng};
 use reference::record::encode;
 use reference::{Event, Run};
 
@@ -26,16 +25,6 @@ fn powered() -> Vec<u8> {
     let mut image = vec![0; IMAGE];
     assert_eq!(both::replay(&mut image, &EXAMPLE, 0).records, 2);
     image
-}
-
-/// The image of any model that passes, of one that doesn't, or of one off.
-fn any_image(rng: &mut Rng) -> Vec<u8> {
-    let state = if rng.once_in(8) { spoiled_state(rng) } else { any_state(rng) };
-    let on = image::of(&Held::On(Powered::new(rng.within(0, 7), rng.any(), state)));
-    if rng.once_in(8) || image::read(&on).is_none() {
-        return vec![0; IMAGE];
-    }
-    on
 }
 
 /// The words of a run: address, length, and the bytes as they are.

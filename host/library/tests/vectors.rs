@@ -10,6 +10,9 @@ use std::path::{Path, PathBuf};
 /// The registers whose bytes the stored lines of `state` have.
 const BYTES: RangeInclusive<u32> = 0x00..=0x26;
 
+/// The bands' names by their numbers; 5 and 6 are none.
+const BANDS: [&str; 8] = ["normal", "cold", "hot", "cool", "warm", "", "", "mixed"];
+
 /// The longest input a program takes.
 const MOST_INPUT: usize = 65_536;
 
@@ -109,7 +112,7 @@ fn state_line(played: &Played) -> String {
     let registers: Vec<u32> =
         BYTES.map(|address| calls::register(played.image, address).byte).collect();
     let held = words(played.image);
-    let band = ["normal", "cold", "hot", "cool", "warm"][held[BAND] as usize];
+    let band = BANDS[held[BAND] as usize];
     let stat = ["low", "blinking", "high"][report(played.image)[5] as usize];
     let handed = played.shown.as_ref().map_or(0, |shown| shown[6]);
     let settings = spaced(&held[SETTINGS..SETTINGS + 14]);

@@ -1,9 +1,10 @@
-//! The temperature band.
+//! The temperature band, of each thermistor and of both together.
 
 use crate::model::Model;
 use crate::state::State;
+use crate::stored::Stored;
 
-/// Where TS stands.
+/// Where one thermistor's TS stands, or both of them.
 #[derive(Clone, Copy, Debug, PartialEq, Eq)]
 pub enum Band {
     /// Neither of the others.
@@ -16,6 +17,8 @@ pub enum Band {
     Warm,
     /// At or below TH5.
     Hot,
+    /// One cool and one warm: of two thermistors alone.
+    Mixed,
 }
 
 impl Band {
@@ -27,10 +30,12 @@ impl Band {
             Band::Cool => "cool",
             Band::Warm => "warm",
             Band::Hot => "hot",
+            Band::Mixed => "mixed",
         }
     }
 
-    /// The band's number, which is its code of TS_STAT.
+    /// The band's number, which is its code of TS_STAT. 5 and 6 "mean other
+    /// things on the other part".
     pub fn number(self) -> u32 {
         match self {
             Band::Normal => 0,
@@ -38,16 +43,15 @@ impl Band {
             Band::Hot => 2,
             Band::Cool => 3,
             Band::Warm => 4,
+            Band::Mixed => 7,
         }
     }
 }
 
-/// "Band, first that holds: EN_TS 0 normal; TS >= TH1 cold; TS <= TH5 hot;
-/// with EN_JEITA: TS >= TH2 cool; TS <= TH3 warm; else normal." The order
-/// matters, as the thresholds can be set to overlap.
-pub fn of_state(state: &State) -> Band {
-    let stored = &state.stored;
-    let ts = state.sample.ts;
+/// One thermistor's: "Band, first that holds: EN_TS 0 normal; TS >= TH1 cold;
+/// TS <= TH5 hot; with EN_JEITA: TS >= TH2 cool; TS <= TH3 warm; else normal."
+/// The order matters, as the thresholds can be set to overlap.
+fn of_one(stored: &Stored, ts: u32) -> Band {
     if !stored.en_ts() {
         Band::Normal
     } else if ts >= stored.th1() {
@@ -61,6 +65,24 @@ pub fn of_state(state: &State) -> Band {
     } else {
         Band::Normal
     }
+}
+
+/// "If either is cold the band is cold, else if either is hot it is hot; cool
+/// beside warm counts as a new band, apart, [...]; otherwise the one that isn't
+/// normal decides."
+fn joined(first: Band, second: Band) -> Band {
+    match (first, second) {
+        (Band::Cold, _) | (_, Band::Cold) => Band::Cold,
+        (Band::Hot, _) | (_, Band::Hot) => Band::Hot,
+        (Band::Cool, Band::Warm) | (Band::Warm, Band::Cool) => Band::Mixed,
+        (Band::Normal, other) | (other, _) => other,
+    }
+}
+
+/// The band of both thermistors, "judged by the same registers".
+pub fn of_state(state: &State) -> Band {
+    let [first, second] = [state.sample.ts, state.second].map(|ts| of_one(&state.stored, ts));
+    joined(first, second)
 }
 
 /// The band of a model; normal before a power-on.

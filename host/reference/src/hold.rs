@@ -1,6 +1,6 @@
 //! What events may bring and what a model may hold.
 
-use crate::event::{Profile, Resistors, Sample};
+use crate::event::{Profile, Resistors, TwoSample};
 use crate::model::Model;
 use crate::settings::{Setting, Settings};
 use crate::state::{PerStage, Stage, State, MOST_AHEAD_MS, UNITS_PER_SECOND};
@@ -32,12 +32,14 @@ pub fn resistors_in_range(resistors: &Resistors) -> bool {
     pins.into_iter().all(|ohms| ohms <= MOST_RESISTOR)
 }
 
-/// Whether an observation's numbers are in their ranges. Its stamp has none.
-pub fn sample_in_range(sample: &Sample) -> bool {
+/// Whether an observation's numbers are in their ranges, of which both TS have
+/// the same. Its stamp has none.
+pub fn sample_in_range(TwoSample { sample, second }: &TwoSample) -> bool {
     sample.vin <= MOST_MV
         && sample.vbat <= MOST_MV
         && (-10_000..=5_000).contains(&sample.ibat)
         && sample.ts <= MOST_TS
+        && *second <= MOST_TS
         && sample.bits <= MOST_BITS
 }
 
@@ -66,7 +68,7 @@ fn state_may_hold(state: &State) -> bool {
     held_profile_in_range(state)
         && settings_in_range(&state.settings)
         && state.stored.may_hold()
-        && sample_in_range(&state.sample)
+        && sample_in_range(&state.observed())
         && state.phase <= MOST_PHASE
         && state.flags <= MOST_FLAGS
         && Stage::ALL.into_iter().all(|stage| time_in_range(state, stage))

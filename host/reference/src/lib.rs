@@ -39,7 +39,7 @@ pub mod stored;
 pub mod volts;
 
 pub use band::{band, Band};
-pub use event::{Event, Profile, Resistors, Run, Sample};
+pub use event::{Event, Profile, Resistors, Run, Sample, TwoSample};
 pub use hold::may_hold;
 pub use model::{Model, Step};
 pub use part::{part, partlog, Parting};

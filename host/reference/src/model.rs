@@ -128,7 +128,7 @@ pub fn hand_back(event: &Event, state: &mut State) -> u32 {
 
 fn cause_of(event: &Event, before: &State) -> Cause {
     match event {
-        Event::Observe(_) => Cause::Observation { held: before.phase },
+        Event::Observe(_) | Event::ObserveTwo(_) => Cause::Observation { held: before.phase },
         _ => Cause::Other,
     }
 }

@@ -63,7 +63,8 @@ fn charge_clamp(state: &State) -> u32 {
 }
 
 /// "times 20, 40, 100% in cool (ISETC 1-3), 40 or 100% in warm". ISETC 0
-/// suspends, so a run never reports its share; it is nothing.
+/// suspends, so a run never reports its share; it is nothing. Cool beside warm
+/// suspends too, and "has no cut and no share": all of the current.
 fn band_percent(state: &State) -> u32 {
     match band::of_state(state) {
         Band::Cool => [0, 20, 40, 100][usize::from(state.stored.jeita_isetc())],

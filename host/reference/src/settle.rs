@@ -94,7 +94,7 @@ pub fn base_voltage(state: &State) -> PackMv {
 }
 
 /// "Charge voltage: base, less in warm 250, 100 or 0 per cell (JEITA_VSET
-/// 1-3)."
+/// 1-3)." Cool beside warm "has no cut".
 pub fn charge_voltage(state: &State) -> PackMv {
     let cut = match (band::of_state(state), state.stored.jeita_vset()) {
         (Band::Warm, 1) => CellMv(250),
@@ -189,10 +189,11 @@ fn judged(state: &State) -> u32 {
     }
 }
 
-/// "6 suspended, cold, hot, cool with JEITA_ISETC 0, warm with JEITA_VSET 0"
+/// "6 suspended, cold, hot, cool with JEITA_ISETC 0, warm with JEITA_VSET 0".
+/// Cool beside warm "suspends whatever ISETC and VSET are".
 fn suspended(state: &State) -> bool {
     match band::of_state(state) {
-        Band::Cold | Band::Hot => true,
+        Band::Cold | Band::Hot | Band::Mixed => true,
         Band::Cool => state.stored.jeita_isetc() == 0,
         Band::Warm => state.stored.jeita_vset() == 0,
         Band::Normal => false,

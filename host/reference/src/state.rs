@@ -1,7 +1,7 @@
 //! What a powered model holds, and what each event does to it before it
 //! settles.
 
-use crate::event::{Event, Profile, Sample};
+use crate::event::{Event, Profile, Sample, TwoSample};
 use crate::hold::sample_in_range;
 use crate::pins::{Overrides, Pins};
 use crate::refusal::Refusal;
@@ -154,6 +154,8 @@ pub struct State {
     pub watchdog: u32,
     /// The sample that stands; its stamp is the last stamp.
     pub sample: Sample,
+    /// The second thermistor's TS of it.
+    pub second: u32,
     /// The phase.
     pub phase: u32,
     /// The held flags.
@@ -164,6 +166,7 @@ impl State {
     /// The state of a power-on, before it settles.
     pub(crate) fn at_power_on(profile: &Profile) -> State {
         let pins = Pins { cell: profile.cell, vchg: profile.vchg, ichg: profile.ichg };
+        let TwoSample { sample, second } = Sample::at_power_on(profile.stamp).of_two();
         State {
             pins,
             ohms: profile.ohms,
@@ -179,10 +182,16 @@ impl State {
             comparators: Comparators::at_power_on(),
             cycle: Cycle::default(),
             watchdog: 0,
-            sample: Sample::at_power_on(profile.stamp),
+            sample,
+            second,
             phase: phase::IDLE,
             flags: 0,
         }
+    }
+
+    /// The sample that stands, of both thermistors.
+    pub fn observed(&self) -> TwoSample {
+        TwoSample { sample: self.sample, second: self.second }
     }
 
     /// The pins' overrides.
@@ -236,17 +245,19 @@ impl State {
         }
     }
 
-    fn observe(&mut self, sample: &Sample) -> Result<(), Refusal> {
-        if !sample_in_range(sample) {
+    fn observe(&mut self, two: &TwoSample) -> Result<(), Refusal> {
+        if !sample_in_range(two) {
             return Err(Refusal::OutOfRange);
         }
+        let TwoSample { sample, second } = *two;
         let elapsed = sample.stamp.wrapping_sub(self.sample.stamp);
         if elapsed > MOST_AHEAD_MS {
             return Err(Refusal::StampAhead);
         }
         self.count_stage(elapsed);
         self.count_watchdog(elapsed);
-        self.sample = *sample;
+        self.sample = sample;
+        self.second = second;
         Ok(())
     }
 
@@ -275,7 +286,8 @@ impl State {
             Event::PowerOn(_) | Event::PowerOnResistors(_) | Event::TakeFlags => {}
             Event::Set { number, value } => self.set(*number, *value)?,
             Event::Write { address, byte } => registers::write(self, *address, *byte)?,
-            Event::Observe(sample) => self.observe(sample)?,
+            Event::Observe(sample) => self.observe(&sample.of_two())?,
+            Event::ObserveTwo(two) => self.observe(two)?,
             Event::Service => self.watchdog = 0,
             Event::Reset => self.reset(),
             Event::WriteRun(run) => runs::write(self, run)?,

@@ -189,7 +189,7 @@ fn small_spellings() {
 /// the length's".
 #[test]
 fn the_byte_that_decided_it() {
-    let rows: [(&[u8], u32, usize); 19] = [
+    let rows: [(&[u8], u32, usize); 22] = [
         (&[5], 1, 29),
         (&[5, 0xE8, 0x07, 0xE0], 1, 32),
         (&[2, 0x81, 0x80, 0x00, 7], 2, 31),
@@ -207,7 +207,10 @@ fn the_byte_that_decided_it() {
         (&[8, 0x10, 0xFF, 0xFF, 0xFF, 0xFF, 0x10], 3, 34),
         (&[8, 0x10, 0x02, 0x80], 1, 32),
         (&[9, 0x80, 0x00], 2, 30),
-        (&[10, 0x80, 0x00], 4, 28),
+        (&[10, 1, 2, 3, 4, 5, 6], 1, 35),
+        (&[10, 1, 2, 3, 4, 5, 0x86, 0x00, 7], 2, 35),
+        (&[10, 1, 2, 3, 4, 5, 0xFF, 0xFF, 0xFF, 0xFF, 0x10], 3, 38),
+        (&[18, 0x80, 0x00], 4, 28),
         (&[14, 0xA0], 1, 30),
     ];
     let longer = [EXAMPLE.as_slice(), &[7; 20]].concat();

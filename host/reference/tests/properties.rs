@@ -35,7 +35,7 @@ fn check_settled(state: &State) {
     assert_eq!(step.model, Model::On(State { flags: 0, ..*state }));
     assert_eq!((step.handed, step.pulse), (state.flags, false));
     let Model::On(settled) = step.model else { unreachable!("it is powered") };
-    let again = Model::On(*state).step(&Event::Observe(state.sample));
+    let again = Model::On(*state).step(&Event::ObserveTwo(state.observed()));
     assert_eq!(again.refusal, None);
     if again.model != Model::On(*state) {
         // Only a charge that ends moves on an equal sample.
@@ -64,10 +64,11 @@ fn an_accepted_event_on_any_model_that_passes_makes_one_that_passes() {
         let model = Model::On(state);
         assert!(may_hold(&model), "{state:?}");
         check(&model, &any_event(&mut rng));
-        let sample = any_state(&mut rng).sample;
+        let mut two = any_state(&mut rng).observed();
         let ahead = rng.pick(&[0, 1, 1_000, 3_599_999, 3_600_000, 3_600_001]);
-        let stamp = state.sample.stamp.wrapping_add(ahead);
-        check(&model, &Event::Observe(reference::Sample { stamp, ..sample }));
+        two.sample.stamp = state.sample.stamp.wrapping_add(ahead);
+        check(&model, &Event::Observe(two.sample));
+        check(&model, &Event::ObserveTwo(two));
     }
 }
 
@@ -176,7 +177,7 @@ fn plausible_logs_reach_every_part_of_the_model() {
         seen.run(&plausible_log(seed, RECORDS));
     }
     assert_eq!(seen.phases.len(), 8);
-    assert_eq!(seen.bands.len(), 5);
+    assert_eq!(seen.bands.len(), 6);
     assert_eq!(seen.stats.len(), 3);
     assert_eq!(seen.flags, 4_095);
     assert!(seen.wrapped);
@@ -198,6 +199,8 @@ fn plausible_logs_reach_every_part_of_the_model() {
         (8, false),
         (9, true),
         (9, false),
+        (10, true),
+        (10, false),
         (14, false),
     ]);
     assert_eq!(seen.kinds, possible);

@@ -284,6 +284,8 @@ fn statuses_follow_what_flags_are_edges_of() {
     assert_eq!(seen(|state| state.sample.ts = 30_000), [0, 2, 0]);
     assert_eq!(seen(|state| state.sample.ts = 70_000), [0, 3, 0]);
     assert_eq!(seen(|state| state.sample.ts = 44_000), [0, 4, 0]);
+    assert_eq!(seen(|state| state.second = 44_000), [0, 4, 0]);
+    assert_eq!(seen(|state| (state.sample.ts, state.second) = (44_000, 70_000)), [0, 7, 0]);
     assert_eq!(seen(|state| state.cycle.times.trickle = 7_200_000), [0, 0, 0x10]);
     assert_eq!(seen(|state| state.cycle.times.precharge = 14_400_000), [0, 0, 0x10]);
     assert_eq!(seen(|state| state.cycle.times.fast = 72_000_000), [0, 0, 0x10]);

@@ -2,17 +2,19 @@
 //! acts as kind 1 with the codes, its refusals, and what the generators reach
 //! of it.
 
+mod lines;
+
 use std::collections::BTreeSet;
 
 use reference::generate::{
     any_event, any_resistors, any_state, plausible_events, spelled, spoiled_state, times, Rng,
 };
-use reference::map::LAST;
 use reference::pins::{code_of, matches, RESISTORS};
 use reference::{
-    number, partlog, record, runlog, statelog, Event, Model, Profile, Reading, Refusal, Resistors,
-    Step,
+    number, partlog, record, Event, Model, Profile, Reading, Refusal, Resistors, Step,
 };
+
+use lines::{held, lines};
 
 /// The spans of codes 1 to 7, worked out by hand from "within 2%".
 const SPANS: [(u32, u32); 7] = [
@@ -113,23 +115,6 @@ fn it_acts_as_kind_1_with_the_codes() {
             assert_eq!(step, owed(&model, &resistors), "{resistors:?} on {model:?}");
         }
     }
-}
-
-/// What the model holds after each record, every register read.
-fn held(log: &[u8]) -> String {
-    statelog(log, 0..=LAST)
-}
-
-/// The lines of a log without their kinds, and without the last.
-fn lines(log: &[u8]) -> Vec<String> {
-    let mut lines: Vec<String> = runlog(log).lines().map(without_kind).collect();
-    lines.pop();
-    lines
-}
-
-fn without_kind(line: &str) -> String {
-    let words: Vec<&str> = line.split(' ').collect();
-    [&words[..1], &words[2..]].concat().join(" ")
 }
 
 #[test]

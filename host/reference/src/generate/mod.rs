@@ -6,8 +6,9 @@
 //! * [`damaged_log`]: a plausible log with bytes changed, cut or put in, or a
 //!   number misspelled.
 //! * [`log_pair`]: two logs that share a start.
-//! * [`any_event`], [`any_resistors`], [`any_run`]: single events, in their
-//!   ranges and out of them; [`unspelled_run`]: such as have no spelling.
+//! * [`any_event`], [`any_resistors`], [`any_two_sample`], [`any_run`]: single
+//!   events, in their ranges and out of them; [`unspelled_run`]: such as have no
+//!   spelling.
 //! * [`any_state`], [`spoiled_state`]: models handed in from outside.
 
 use crate::event::Event;
@@ -19,20 +20,25 @@ mod probe;
 mod records;
 mod rng;
 mod runs;
+mod samples;
 mod states;
 mod walk;
 
 pub use records::{any_event, any_resistors};
 pub use rng::Rng;
 pub use runs::{any_run, unspelled_run};
+pub use samples::any_two_sample;
 pub use states::{any_state, spoiled_state};
 
 use damage::damage;
 use records::power_on;
+use samples::observation_of;
 use walk::Walk;
 
 const MOST_MV: u32 = 45_000;
 const MOST_TS: u32 = 100_000;
+/// TS in the normal band, whatever the thresholds.
+const NORMAL_TS: u32 = 55_000;
 const MOST_RESISTOR: u32 = 100_000;
 
 /// How many rounds to run: `rounds`, times CHEUKDANE_TIMES for longer runs.
@@ -74,7 +80,7 @@ pub fn damaged_log(seed: u64, records: usize) -> Vec<u8> {
 }
 
 /// Two logs: equal, one the other's start, one damaged, one with its power-ons
-/// said otherwise, or parting at some record.
+/// and observations said otherwise, or parting at some record.
 pub fn log_pair(seed: u64, records: usize) -> (Vec<u8>, Vec<u8>) {
     let mut rng = Rng::new(seed ^ 0x5EED_50F2_7065_A175);
     let events = plausible_events(seed, records);
@@ -100,9 +106,14 @@ pub fn log_pair(seed: u64, records: usize) -> (Vec<u8>, Vec<u8>) {
     }
 }
 
-/// The events, with power-ons that bring the same profiles in place of theirs.
+/// The events, with power-ons that bring the same profiles, and observations
+/// that bring the same values, in place of theirs.
 fn said_otherwise(rng: &mut Rng, events: &[Event]) -> Vec<Event> {
-    let other = |event: &Event| event.profile().map_or(*event, |profile| power_on(rng, profile));
+    let other = |event: &Event| match (event.profile(), event.observed()) {
+        (Some(profile), _) => power_on(rng, profile),
+        (_, Some(two)) => observation_of(rng, two),
+        _ => *event,
+    };
     events.iter().map(other).collect()
 }
 

@@ -1,11 +1,12 @@
 //! Episodes of a run that take one comparator, or one rule, to its points.
 
-use super::aim::share_of;
-use super::records::{edge_of_profile, edge_of_sample, power_on, soldered, span};
+use super::aim::{share_of, threshold_of_ts};
+use super::records::{edge_of_profile, power_on, soldered, span};
 use super::runs::{held_bytes, put};
+use super::samples::{as_of_one, edge_of_sample, one_or_both};
 use super::walk::Walk;
-use super::MOST_MV;
-use crate::event::{Event, Profile, Run, Sample, HIZ_PIN, SHUTDOWN};
+use super::{MOST_MV, NORMAL_TS};
+use crate::event::{Event, Profile, Run, Sample, TwoSample, HIZ_PIN, SHUTDOWN};
 use crate::settings::Setting;
 use crate::settle::{base_voltage, charge_voltage};
 use crate::state::State;
@@ -16,14 +17,11 @@ const LOW: [(u32, u32); 4] = [(300, 250), (550, 500), (667, 617), (714, 664)];
 /// The recharge points, in thousandths of the charge voltage, by VRECHG.
 const RECHARGE: [u32; 4] = [927, 941, 955, 970];
 
-/// TS in the normal band, whatever the thresholds.
-const NORMAL_TS: u32 = 55_000;
-
 impl Walk {
     /// One episode, begun where a charge is permitted.
     pub(super) fn probe(&mut self) {
         self.permit();
-        match self.rng.within(0, 15) {
+        match self.rng.within(0, 17) {
             0 => self.probe_vin(),
             1 => self.probe_short(),
             2..=4 => self.probe_low(),
@@ -36,6 +34,7 @@ impl Walk {
             12 => self.probe_run_cells(),
             13 => self.probe_run_resets(),
             14 => self.probe_run_serves(),
+            15 | 16 => self.probe_thermistors(),
             _ => self.probe_done_in_fault(),
         }
     }
@@ -60,10 +59,10 @@ impl Walk {
     /// Observes the held sample with a change, at once or a little later.
     fn see(&mut self, change: impl FnOnce(&mut Sample, &State)) {
         let Some(state) = self.state() else { return };
-        let mut sample = state.sample;
+        let mut sample = as_of_one(&state);
         sample.stamp = sample.stamp.wrapping_add(self.rng.pick(&[0, 0, 0, 1, 10]));
         change(&mut sample, &state);
-        self.give(Event::Observe(sample));
+        self.observe(sample);
     }
 
     fn see_vbat(&mut self, vbat: u32) {
@@ -250,6 +249,23 @@ impl Walk {
         }
     }
 
+    /// Two thermistors at thresholds or beside them, one way round and the
+    /// other, with any of what cool and warm may do alone.
+    fn probe_thermistors(&mut self) {
+        let enabled = self.rng.pick(&[3, 3, 3, 3, 1, 2]);
+        let behaviour = self.rng.within(0, 31) << 2 | enabled;
+        self.write_to(0x19, 0x80 | behaviour);
+        self.see(|sample, state| sample.vbat = share_of(base_voltage(state), 900));
+        for _ in 0..self.rng.within(1, 3) {
+            let Some(state) = self.state() else { return };
+            let [one, other] = [(); 2].map(|()| threshold_of_ts(&mut self.rng, &state));
+            for (ts, second) in [(one, other), (other, one)] {
+                let sample = Sample { ts, ..state.sample };
+                self.give(Event::ObserveTwo(TwoSample { sample, second }));
+            }
+        }
+    }
+
     /// A done charge that falls below the recharge point while a fault or a
     /// suspension holds.
     fn probe_done_in_fault(&mut self) {
@@ -329,7 +345,8 @@ impl Walk {
                 let profile = edge_of_profile(&mut self.rng);
                 power_on(&mut self.rng, profile)
             } else {
-                Event::Observe(edge_of_sample(&mut self.rng, state.sample))
+                let two = edge_of_sample(&mut self.rng, state.observed());
+                one_or_both(&mut self.rng, two)
             };
             self.give(event);
         }

@@ -2,10 +2,10 @@
 
 use super::rng::Rng;
 use super::runs::{any_flag_register, any_run};
-use super::{MOST_MV, MOST_RESISTOR, MOST_TS};
-use crate::event::{Event, Profile, Resistors, Sample};
+use super::samples::{any_two_sample, one_or_both};
+use super::MOST_RESISTOR;
+use crate::event::{Event, Profile, Resistors};
 use crate::pins::{code_of, RESISTORS};
-use crate::state::MOST_AHEAD_MS;
 
 /// Any event at all that has a spelling: ranges are often kept, and often not.
 pub fn any_event(rng: &mut Rng) -> Event {
@@ -19,7 +19,10 @@ pub fn any_event(rng: &mut Rng) -> Event {
         7 => Event::PowerOnResistors(any_resistors(rng)),
         8 => Event::WriteRun(any_run(rng)),
         9 => Event::ReadFlags { address: any_flag_register(rng) },
-        _ => Event::Observe(any_sample(rng)),
+        _ => {
+            let two = any_two_sample(rng);
+            one_or_both(rng, two)
+        }
     }
 }
 
@@ -149,46 +152,6 @@ pub(super) fn edge_of_profile(rng: &mut Rng) -> Profile {
         _ => profile.watchdog = seconds,
     }
     profile
-}
-
-/// A sample with one number at an end of its range or just outside.
-pub(super) fn edge_of_sample(rng: &mut Rng, held: Sample) -> Sample {
-    let mut sample = held;
-    match rng.within(0, 4) {
-        0 => sample.vin = rng.pick(&[0, 45_000, 45_001]),
-        1 => sample.vbat = rng.pick(&[0, 45_000, 45_001]),
-        2 => sample.ibat = rng.pick(&[-10_001, -10_000, 5_000, 5_001]),
-        3 => sample.ts = rng.pick(&[0, 100_000, 100_001]),
-        _ => sample.bits = rng.pick(&[0, 63, 64]),
-    }
-    sample
-}
-
-fn any_sample(rng: &mut Rng) -> Sample {
-    let mut sample = Sample {
-        stamp: rng.within(0, MOST_AHEAD_MS),
-        vin: rng.within(0, MOST_MV),
-        vbat: rng.within(0, MOST_MV),
-        ibat: rng.within_signed(-10_000, 5_000),
-        ts: rng.within(0, MOST_TS),
-        bits: rng.within(0, 63),
-    };
-    if rng.coin() {
-        let odd = rng.any_length();
-        spoil_sample(rng, &mut sample, odd);
-    }
-    sample
-}
-
-fn spoil_sample(rng: &mut Rng, sample: &mut Sample, odd: u32) {
-    match rng.within(0, 5) {
-        0 => sample.stamp = odd,
-        1 => sample.vin = rng.pick(&[45_000, 45_001, odd]),
-        2 => sample.vbat = rng.pick(&[45_000, 45_001, odd]),
-        3 => sample.ibat = rng.pick(&[-10_001, -10_000, 5_000, 5_001, odd as i32, i32::MIN]),
-        4 => sample.ts = rng.pick(&[100_000, 100_001, odd]),
-        _ => sample.bits = rng.pick(&[64, odd]),
-    }
 }
 
 /// A power-on's numbers in their ranges, faults now and then.

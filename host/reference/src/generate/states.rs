@@ -3,8 +3,8 @@
 use super::aim::{around, threshold_of_ts, threshold_of_vbat, threshold_of_vin};
 use super::records::good_profile;
 use super::rng::Rng;
-use super::MOST_TS;
-use crate::event::Sample;
+use super::{MOST_TS, NORMAL_TS};
+use crate::event::{Sample, TwoSample};
 use crate::pins::Pins;
 use crate::settings::{Setting, Settings};
 use crate::state::{Comparators, Cycle, PerStage, Stage, State, MOST_AHEAD_MS, UNITS_PER_SECOND};
@@ -17,6 +17,7 @@ pub fn any_state(rng: &mut Rng) -> State {
     let limits =
         PerStage { trickle: profile.trickle, precharge: profile.precharge, fast: profile.fast };
     let phase = rng.within(0, 7);
+    let TwoSample { sample, second } = Sample::at_power_on(profile.stamp).of_two();
     let mut state = State {
         pins: Pins { cell: profile.cell, vchg: profile.vchg, ichg: profile.ichg },
         ohms: profile.ohms,
@@ -28,16 +29,24 @@ pub fn any_state(rng: &mut Rng) -> State {
         comparators: any_comparators(rng),
         cycle: Cycle { times: any_times(rng, &limits, phase), done: rng.coin() },
         watchdog: any_below(rng, profile.watchdog * 1_000 + 1),
-        sample: Sample::at_power_on(profile.stamp),
+        sample,
+        second,
         phase,
         flags: rng.within(0, 4_095),
     };
     state.sample.vin = if rng.coin() { 5_000 } else { threshold_of_vin(rng) };
     state.sample.vbat = threshold_of_vbat(rng, &state);
     state.sample.ts = threshold_of_ts(rng, &state).min(MOST_TS);
+    state.second = any_second(rng, &state);
     state.sample.ibat = around(rng, state.settings[Setting::Iterm] as i32);
     state.sample.bits = if rng.coin() { 0 } else { rng.within(0, 63) };
     state
+}
+
+/// The second thermistor's TS: equal, normal, or at a threshold.
+fn any_second(rng: &mut Rng, state: &State) -> u32 {
+    let threshold = threshold_of_ts(rng, state).min(MOST_TS);
+    rng.pick(&[state.sample.ts, NORMAL_TS, threshold, threshold])
 }
 
 /// A number below `end`, which isn't 0: often near it, or 0.
@@ -101,7 +110,7 @@ pub fn spoiled_state(rng: &mut Rng) -> State {
 }
 
 fn spoil(rng: &mut Rng, state: &mut State) {
-    match rng.within(0, 18) {
+    match rng.within(0, 19) {
         0 => state.pins.cell = 8,
         1 => state.pins.vchg = 8,
         2 => state.pins.ichg = 8,
@@ -116,9 +125,10 @@ fn spoil(rng: &mut Rng, state: &mut State) {
         12 => state.sample.vbat = 45_001,
         13 => state.sample.ibat = rng.pick(&[-10_001, 5_001]),
         14 => state.sample.ts = 100_001,
-        15 => state.sample.bits = 64,
-        16 => state.phase = 8,
-        17 => state.flags = 4_096,
+        15 => state.second = 100_001,
+        16 => state.sample.bits = 64,
+        17 => state.phase = 8,
+        18 => state.flags = 4_096,
         _ => spoil_time(rng, state),
     }
 }

@@ -4,8 +4,9 @@ use super::aim::{around, gap, threshold_of_ts, threshold_of_vbat, threshold_of_v
 use super::records::{any_event, any_profile, good_profile, power_on};
 use super::rng::Rng;
 use super::runs::{any_flag_register, held_run};
-use super::MOST_MV;
-use crate::event::{Event, Sample};
+use super::samples::{observation, one_or_both};
+use super::{MOST_MV, NORMAL_TS};
+use crate::event::{Event, Sample, TwoSample};
 use crate::model::Model;
 use crate::settings::Setting;
 use crate::settle::{base_voltage, charge_voltage};
@@ -104,8 +105,14 @@ impl Walk {
         for step in 0..steps {
             let Some(state) = self.state() else { return };
             let sample = self.charging_sample(&state, from + step);
-            self.give(Event::Observe(sample));
+            self.observe(sample);
         }
+    }
+
+    /// Observes a sample, with one thermistor or with two.
+    pub(super) fn observe(&mut self, sample: Sample) {
+        let event = observation(&mut self.rng, sample);
+        self.give(event);
     }
 
     /// The sample of one step of a charge: 0 short, 1 low, 2-3 fast, from 4
@@ -126,7 +133,7 @@ impl Walk {
             _ => around(rng, state.settings[Setting::Iterm] as i32),
         };
         let bits = if rng.once_in(5) { rng.pick(&[4, 8, 16, 28]) } else { 0 };
-        let ts = if rng.once_in(6) { threshold_of_ts(rng, state) } else { 55_000 };
+        let ts = if rng.once_in(6) { threshold_of_ts(rng, state) } else { NORMAL_TS };
         let stamp = state.sample.stamp.wrapping_add(gap(rng, state));
         Sample {
             stamp,
@@ -141,26 +148,28 @@ impl Walk {
     /// The held sample with some of its numbers moved to a threshold.
     fn observe_at_an_edge(&mut self, state: &State) {
         let rng = &mut self.rng;
-        let mut sample = state.sample;
+        let TwoSample { mut sample, mut second } = state.observed();
         sample.stamp = sample.stamp.wrapping_add(gap(rng, state));
         for _ in 0..rng.within(1, 2) {
-            match rng.within(0, 5) {
+            match rng.within(0, 6) {
                 0 => sample.vin = threshold_of_vin(rng),
                 1 | 2 => sample.vbat = threshold_of_vbat(rng, state),
                 3 => sample.ts = threshold_of_ts(rng, state),
-                4 => sample.ibat = around(rng, state.settings[Setting::Iterm] as i32),
+                4 => second = threshold_of_ts(rng, state),
+                5 => sample.ibat = around(rng, state.settings[Setting::Iterm] as i32),
                 _ => sample.bits ^= rng.pick(&[1, 2, 4, 8, 16, 32, 64]),
             }
         }
-        self.give(Event::Observe(sample));
+        let event = one_or_both(rng, TwoSample { sample, second });
+        self.give(event);
     }
 
     /// A sample that lets a charge go on: input good, no bits, normal band.
     fn end_a_fault(&mut self) {
         let Some(state) = self.state() else { return };
-        let lost = Sample { vin: 0, bits: 0, ts: 55_000, ..state.sample };
-        self.give(Event::Observe(lost));
-        self.give(Event::Observe(Sample { vin: 5_000, ..lost }));
+        let lost = Sample { vin: 0, bits: 0, ts: NORMAL_TS, ..state.sample };
+        self.observe(lost);
+        self.observe(Sample { vin: 5_000, ..lost });
     }
 
     fn set(&mut self, state: &State) {
