@@ -101,8 +101,8 @@ tsBandAt k r =
     (pick (jeita && leb t (th3At p (fieldAt tsTh3 r))) ts.Warm
     ts.Normal))))
 
--- "If either is cold the band is cold, else if either is hot it is hot; cool beside warm counts as a new band, apart ..; otherwise the one that isn't normal decides.": a row to the
--- first thermistor's band, a column to the second's
+-- "If either is cold the band is cold, else if either is hot it is hot; cool beside warm counts as a new band, apart ..; otherwise the one that isn't normal decides.": a table
+-- with a row to the first thermistor's band and a column to the second's, which are normal, cold, hot, cool and warm
 abbrev pub rowOf : Band → Band → Band → Band → Band → TsBand → Band
 rowOf normal cold hot cool warm ts.Normal = normal
 rowOf normal cold hot cool warm ts.Cold = cold

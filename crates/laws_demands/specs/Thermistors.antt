@@ -37,6 +37,6 @@ insteadOfMixed other Warm = Warm
 insteadOfMixed other Hot = Hot
 insteadOfMixed other Mixed = other
 
--- which charges: normal, cool or warm
+-- each of normal, cool and warm would charge
 unfoldable pub mixedAs : Band → Step
 mixedAs other m e = stepBanded (λ p g x. insteadOfMixed other (packBandOf p g x)) m e

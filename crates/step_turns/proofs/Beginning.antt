@@ -14,7 +14,7 @@ use Rattle.step_pins.specs.Codes.{codeOf}
 use Rattle.step_pins.proofs.Pins.{pin-table}
 use Rattle.step_turns.specs.Ranges.{profileInRange, twoInRange, resistorsInRange}
 use Rattle.step_turns.specs.Coded.{codedOf}
-use Rattle.step_turns.specs.Turns.{heldProfile, heldSample, opensWith, observesWith, turnOf}
+use Rattle.step_turns.specs.Turns.{heldProfile, heldSample, opensWith, secondOfOne, observesWith, turnOf}
 use Rattle.step_turns.specs.Begins.{StandsFor, in-span, in-none, byCodes, byResistors, Begins, coded, soldered}
 use Rattle.step_turns.specs.Promises.{SaysOneProfile, BeginsAsSaid}
 use Rattle.step_turns.specs.declared.later.Later.the-variants.{Observe}
@@ -113,7 +113,7 @@ said (event.PowerOn q) p e = same (event.PowerOn q) (heldProfile q) p (coded (he
 said (event.Set number value) p e = closed _ p refl e
 said (event.Write address byte) p e = closed _ p refl e
 said event.TakeFlags p e = closed _ p refl e
-said (event.Observe x) p e = observed x (x .ts) p e
+said (event.Observe x) p e = observed x (secondOfOne x) p e
 said (event.ObserveTwo t) p e = observed (t .sample) (t .second) p e
 said event.Service p e = closed _ p refl e
 said event.Reset p e = closed _ p refl e

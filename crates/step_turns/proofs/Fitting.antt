@@ -10,7 +10,7 @@ use Rattle.log_event.specs.declared.spelled.SpelledSample.{SpelledSample}
 use Rattle.state_valid.specs.Holds.{profileOk, sampleOk}
 use Rattle.step_turns.specs.Ranges.{profileInRange, sampleInRange, twoInRange, resistorsInRange}
 use Rattle.step_turns.specs.Coded.{codedOf}
-use Rattle.step_turns.specs.Turns.{heldProfile, heldSample, opensWith, turnOf}
+use Rattle.step_turns.specs.Turns.{heldProfile, heldSample, opensWith, secondOfOne, turnOf}
 use Rattle.step_turns.specs.Promises.{TurnFits, EveryTurnFits, EqualSayFive}
 use Rattle.step_turns.specs.declared.later.Later.the-variants.{Observe}
 use Rattle.step_turns.specs.declared.turn.Turn.{Turn}
@@ -42,7 +42,7 @@ every-turn-fits (event.PowerOn p) = opens-by p (profileInRange p) (profile-held 
 every-turn-fits (event.Set number value) = refl
 every-turn-fits (event.Write address byte) = refl
 every-turn-fits event.TakeFlags = refl
-every-turn-fits (event.Observe x) = observes-by x (x .ts) (twoInRange x (x .ts)) (sample-held x (x .ts))
+every-turn-fits (event.Observe x) = observes-by x (secondOfOne x) (twoInRange x (secondOfOne x)) (sample-held x (secondOfOne x))
 every-turn-fits event.Service = refl
 every-turn-fits event.Reset = refl
 every-turn-fits (event.PowerOnResistors r) = within-by (opensWith (codedOf r)) (resistorsInRange r) (opens-by (codedOf r) (profileInRange (codedOf r)) (profile-held (codedOf r)))

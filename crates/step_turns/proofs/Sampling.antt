@@ -13,7 +13,7 @@ use Rattle.log_event.specs.declared.spelled.SpelledTwo.{SpelledTwo}
 use Rattle.state_parts.specs.declared.sample.Sample.{Sample}
 use Rattle.step_turns.specs.Ranges.{profileInRange, twoInRange, resistorsInRange}
 use Rattle.step_turns.specs.Coded.{codedOf}
-use Rattle.step_turns.specs.Turns.{heldProfile, heldSample, opensWith, observesWith, turnOf}
+use Rattle.step_turns.specs.Turns.{heldProfile, heldSample, opensWith, secondOfOne, turnOf}
 use Rattle.step_turns.specs.Sampled.{bySample, SaysSample, one-value, two-values}
 use Rattle.step_turns.specs.Promises.{SaysOneSample, ObservesAsSaid}
 use Rattle.step_turns.specs.declared.later.Later.{Later}
@@ -22,8 +22,8 @@ use Rattle.step_turns.specs.declared.turn.Turn.{Turn}
 use Rattle.step_turns.specs.declared.turn.Turn.the-variants.{Opens, Follows, OpensOutside, FollowsOutside}
 
 -- ---- the sample that is said
-by-one : (x : SpelledSample) → SaysSample (event.Observe x) (heldSample x (x .ts))
-by-one x = one-value (heldSample x (x .ts)) refl
+by-one : (x : SpelledSample) → SaysSample (event.Observe x) (heldSample x (secondOfOne x))
+by-one x = one-value (heldSample x (secondOfOne x)) refl
 
 by-two : (t : SpelledTwo) → SaysSample (event.ObserveTwo t) (heldSample (t .sample) (t .second))
 by-two t = two-values (heldSample (t .sample) (t .second))
@@ -33,7 +33,7 @@ saidOr other (event.PowerOn p) = other
 saidOr other (event.Set number value) = other
 saidOr other (event.Write address byte) = other
 saidOr other event.TakeFlags = other
-saidOr other (event.Observe x) = heldSample x (x .ts)
+saidOr other (event.Observe x) = heldSample x (secondOfOne x)
 saidOr other event.Service = other
 saidOr other event.Reset = other
 saidOr other (event.PowerOnResistors r) = other
@@ -47,7 +47,7 @@ is-said other _ _ (two-values x) = refl
 
 pub says-one-sample : SaysOneSample
 says-one-sample = record {
-  one-value = λ x. (heldSample x (x .ts), by-one x);
+  one-value = λ x. (heldSample x (secondOfOne x), by-one x);
   two-values = λ t. (heldSample (t .sample) (t .second), by-two t);
   one = λ e x y b c. sym (is-said x e x b) ∙ is-said x e y c;
 }
@@ -121,7 +121,7 @@ said (event.PowerOn p) x e = none (opensWith p) x (opens p) e
 said (event.Set number value) x e = none _ x refl e
 said (event.Write address byte) x e = none _ x refl e
 said event.TakeFlags x e = none _ x refl e
-said (event.Observe s) x e = same (event.Observe s) (heldSample s (s .ts)) x (by-one s) e
+said (event.Observe s) x e = same (event.Observe s) (heldSample s (secondOfOne s)) x (by-one s) e
 said event.Service x e = none _ x refl e
 said event.Reset x e = none _ x refl e
 said (event.PowerOnResistors r) x e = none _ x (within (resistorsInRange r) (opensWith (codedOf r)) (opens (codedOf r))) e

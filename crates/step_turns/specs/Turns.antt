@@ -37,6 +37,10 @@ heldSample x second = record { stamp = x .stamp; input = x .input; pack = x .pac
 abbrev pub opensWith : SpelledProfile → Turn
 opensWith p = pick (profileInRange p) (Opens (heldProfile p)) OpensOutside
 
+-- 02, R-7: "kind 5 stands for two equal ones"
+abbrev pub secondOfOne : SpelledSample → ℕ
+secondOfOne x = x .ts
+
 -- an observation with these numbers
 abbrev pub observesWith : SpelledSample → ℕ → Turn
 observesWith x second = pick (twoInRange x second) (Follows (Observe (heldSample x second))) FollowsOutside
@@ -47,8 +51,7 @@ turnOf (event.PowerOn p) = opensWith p
 turnOf (event.Set number value) = Follows (Set number value)
 turnOf (event.Write address byte) = Follows (Write address byte)
 turnOf event.TakeFlags = Follows TakeFlags
--- 02, R-7: "kind 5 stands for two equal ones"
-turnOf (event.Observe x) = observesWith x (x .ts)
+turnOf (event.Observe x) = observesWith x (secondOfOne x)
 turnOf event.Service = Follows Service
 turnOf event.Reset = Follows Reset
 -- 02, R-5: "Power-on gets a second event, kind 9 .. From there it acts as kind 1 with those codes"
