@@ -6,7 +6,7 @@ use Rattle.state_parts.specs.declared.band.Band.the-variants.{Normal, Cold, Coo
 use Rattle.settle_bands.specs.Thresholds.{bandOf}
 use Rattle.settle_bands.specs.Joined.{packBandOf}
 use Rattle.settle_bands.specs.Joining.{alone}
-use Rattle.laws_step.specs.Observed.{EqualActAsFive}
+use Rattle.laws_step.specs.Observed.{EqualActAsFive, ExchangedActAlike}
 use Rattle.laws_demands.specs.Product.{Step, Product}
 use Rattle.laws_demands.specs.First.{FirstDemand}
 use Rattle.laws_demands.specs.Second.{SecondDemand}
@@ -15,6 +15,9 @@ use Rattle.laws_demands.specs.Slips.{stepBanded}
 -- of every product that meets demands 1 and 2, on every model
 abbrev pub EveryProductActsAsFive : Type 0
 EveryProductActsAsFive = (p : Product) → FirstDemand p → SecondDemand p → EqualActAsFive (p .step)
+
+abbrev pub EveryProductActsAlike : Type 0
+EveryProductActsAlike = (p : Product) → FirstDemand p → SecondDemand p → ExchangedActAlike (p .step)
 
 -- ---- wrong readings
 -- one thermistor alone: the first, or the second

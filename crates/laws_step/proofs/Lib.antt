@@ -4,5 +4,6 @@ mod RunRows
 pub mod Given
 pub mod Powered
 pub mod Observed
+pub mod Exchanged
 pub mod Sums
 pub mod TakenFlags

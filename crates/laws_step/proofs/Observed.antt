@@ -53,7 +53,7 @@ unfolding turnedBy changeOf firstOf
 observed-holds Off x z = absurd (omega (arith, z))
 observed-holds (On s) x z = sampled s x (stateOk s) z
 
-outside-refused : (m : Model) → turnedBy m FollowsOutside .number ≡ 0 → ⊥
+pub outside-refused : (m : Model) → turnedBy m FollowsOutside .number ≡ 0 → ⊥
 unfolding turnedBy changeOf firstOf movedOf
 outside-refused Off z = omega (arith, z)
 outside-refused (On s) z = by (stateOk s) z

@@ -4,4 +4,5 @@ pub mod Alone
 pub mod Below
 pub mod Charged
 pub mod EndTested
+pub mod Ends
 pub mod Once

@@ -4,10 +4,12 @@ use mathlib.Core.Path.{_≡_}
 use mathlib.Core.Bool.{Bool, true, false, not, _&&_}
 use mathlib.Core.Logic.{_≢_}
 use Rattle.settle_bands.specs.Joined.{packBandOf}
+use Rattle.settle_bands.specs.Joining.{exchanged}
 use Rattle.settle_levels.specs.Clamps.{faultOf}
 use Rattle.settle_levels.specs.Comparators.{latchesOf}
 use Rattle.settle_levels.specs.Voltage.{chargeVoltageOf}
 use Rattle.state_parts.specs.Stages.{charging}
+use Rattle.state_parts.specs.With.{withSample}
 use Rattle.state_parts.specs.declared.phase.Phase.the-variants.{Done}
 use Rattle.state_parts.specs.declared.state.State.{State}
 use Rattle.settle_phases.specs.Cycles.{cycleOf}
@@ -47,6 +49,13 @@ pub record Moved (s : State) (observed : Bool) : Type 0 where
 
 abbrev pub SettlesTo : Type 0
 SettlesTo = (s : State) (observed : Bool) → Moved s observed
+
+-- 02, R-7: it doesn't matter which thermistor is which: with the two values in each other's place a state settles alike
+abbrev pub otherWay : State → State
+otherWay s = withSample s (exchanged (s .sample))
+
+abbrev pub EndsAlike : Type 0
+EndsAlike = (s : State) (observed : Bool) → settleOf (otherWay s) observed ≡ otherWay (settleOf s observed)
 
 -- 01: "7 fault, .. a stage limit reached": in the stage that a settling comes to, no limit is reached
 abbrev pub BelowLimits : Type 0

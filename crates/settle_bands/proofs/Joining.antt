@@ -8,7 +8,7 @@ use Rattle.state_parts.specs.declared.band.TsBand.the-variants.{Normal, Cold, C
 use Rattle.settle_bands.specs.Thresholds.{bandOf}
 use Rattle.settle_bands.specs.Effect.{suspendsOf}
 use Rattle.settle_bands.specs.Joined.{isBand, either, firstJoined, joinedOf, packBandOf}
-use Rattle.settle_bands.specs.Joining.{alone, Joins, JoinsAsSaid, JoinedSuspends, EqualActAsOne}
+use Rattle.settle_bands.specs.Joining.{alone, Joins, JoinsAsSaid, JoinedSuspends, exchanged, EitherEnd, EqualActAsOne}
 
 swapped : (is a b : TsBand) → either is a b ≡ either is b a
 unfolding either
@@ -73,6 +73,10 @@ joins-as-said = record { ours = our-joins; only = same }
 pub joined-suspends : JoinedSuspends
 unfolding suspendsOf
 joined-suspends = record { cold = λ p g. refl; hot = λ p g. refl; mixed = λ p g. refl }
+
+pub either-end : EitherEnd
+unfolding packBandOf
+either-end p g x = either-way (bandOf p g (x .secondts)) (bandOf p g (x .ts))
 
 pub equal-act-as-one : EqualActAsOne
 unfolding packBandOf

@@ -44,6 +44,13 @@ pub record JoinedSuspends : Type 0 where
   pub hot : (p : Profile) (g : Registers) → suspendsOf p g Hot ≡ true
   pub mixed : (p : Profile) (g : Registers) → suspendsOf p g Mixed ≡ true
 
+-- so it doesn't matter of a sample either: with the two values in each other's place the band is the same
+abbrev pub exchanged : Sample → Sample
+exchanged x = record { stamp = x .stamp; input = x .input; pack = x .pack; ibat = x .ibat; ts = x .secondts; secondts = x .ts; bits = x .bits }
+
+abbrev pub EitherEnd : Type 0
+EitherEnd = (p : Profile) (g : Registers) (x : Sample) → packBandOf p g (exchanged x) ≡ packBandOf p g x
+
 -- "kind 5 stands for two equal ones": then the band is that of the one value
 abbrev pub EqualActAsOne : Type 0
 EqualActAsOne = (p : Profile) (g : Registers) (x : Sample) → x .secondts ≡ x .ts → packBandOf p g x ≡ alone (bandOf p g (x .ts))
