@@ -1,5 +1,7 @@
 //! The paper's own rows, and its slips to exclude.
 
+mod example;
+
 use reference::event::{HIZ_PIN, IINDPM};
 use reference::number;
 use reference::state::phase;
@@ -8,25 +10,12 @@ use reference::{
     Refusal, Refused, Resistors, Sample, Setting, State,
 };
 
+use example::PROFILE;
+
 const EXAMPLE: [u8; 28] = [
     0x01, 0x02, 0x05, 0x04, 0x00, 0x00, 0x94, 0x23, 0x90, 0x1C, 0xA0, 0x38, 0xA0, 0x99, 0x02, 0x00,
     0x05, 0xE8, 0x07, 0xE0, 0x5D, 0xB0, 0x3B, 0x00, 0xD8, 0xAD, 0x03, 0x00,
 ];
-
-fn profile() -> Profile {
-    Profile {
-        cell: 2,
-        vchg: 5,
-        ichg: 4,
-        ohms: 0,
-        stamp: 0,
-        ceiling: 4_500,
-        trickle: 3_600,
-        precharge: 7_200,
-        fast: 36_000,
-        watchdog: 0,
-    }
-}
 
 fn sample() -> Sample {
     Sample { stamp: 1_000, vin: 12_000, vbat: 7_600, ibat: 0, ts: 55_000, bits: 0 }
@@ -64,14 +53,14 @@ fn set(setting: Setting, value: u32) -> Event {
 fn the_example_log() {
     let wanted = "1 1 0 0 0 0 3300 1 32\n2 5 0 3 1500 8400 3300 1 97\nend 2 0 28\n";
     assert_eq!(runlog(&EXAMPLE), wanted);
-    let events = [Event::PowerOn(profile()), Event::Observe(sample())];
+    let events = [Event::PowerOn(PROFILE), Event::Observe(sample())];
     assert_eq!(events.iter().flat_map(record::encode).collect::<Vec<u8>>(), EXAMPLE);
 }
 
 /// The example's power-on by its resistors.
 #[test]
 fn the_example_log_by_resistors() {
-    let Profile { ohms, stamp, ceiling, trickle, precharge, fast, watchdog, .. } = profile();
+    let Profile { ohms, stamp, ceiling, trickle, precharge, fast, watchdog, .. } = PROFILE;
     let (cell, vchg, ichg) = (6_040, 13_700, 10_500);
     let resistors =
         Resistors { cell, vchg, ichg, ohms, stamp, ceiling, trickle, precharge, fast, watchdog };
@@ -90,14 +79,14 @@ fn inputs_of_no_byte_and_too_many() {
 
 #[test]
 fn ohms_6040_gives_551() {
-    let model = powered(Profile { ohms: 6_040, ..profile() });
+    let model = powered(Profile { ohms: 6_040, ..PROFILE });
     assert_eq!(report(&model).input_limit, 551);
 }
 
 #[test]
 fn cold_is_judged_before_cool() {
     let cold = run(
-        powered(profile()),
+        powered(PROFILE),
         &[write(0x18, 0x93), Event::Observe(Sample { ts: 70_900, ..sample() })],
     );
     assert_eq!(read_register(&cold, 0x18).map(|byte| byte >> 2 & 3), Ok(0));
@@ -108,7 +97,7 @@ fn cold_is_judged_before_cool() {
 #[test]
 fn hot_is_judged_before_warm() {
     let hot = run(
-        powered(profile()),
+        powered(PROFILE),
         &[write(0x18, 0x35), Event::Observe(Sample { ts: 41_200, ..sample() })],
     );
     assert_eq!(band(&hot), Band::Hot);
@@ -116,7 +105,7 @@ fn hot_is_judged_before_warm() {
 
 #[test]
 fn five_cells_to_four() {
-    let model = powered(Profile { cell: 5, vchg: 3, ..profile() });
+    let model = powered(Profile { cell: 5, vchg: 3, ..PROFILE });
     let model = run(model, &[write(0x1B, 0x40), write(0x1B, 0x44)]);
     assert_eq!(state(&model).settings[Setting::Vreg], 16_000);
     assert_eq!(state(&model).settings[Setting::Vsysmin], 12_400);
@@ -125,21 +114,21 @@ fn five_cells_to_four() {
 
 #[test]
 fn an_override_of_the_same_write_takes_no_count() {
-    let model = run(powered(profile()), &[write(0x1B, 0x44)]);
+    let model = run(powered(PROFILE), &[write(0x1B, 0x44)]);
     assert_eq!(read_register(&model, 0x1B), Ok(0x40 | 5 << 3 | 2));
 }
 
 #[test]
 fn trickle_reports_100() {
     let short = Event::Observe(Sample { vbat: 1_000, ..sample() });
-    let model = run(powered(profile()), &[set(Setting::Ichg, 40), short]);
+    let model = run(powered(PROFILE), &[set(Setting::Ichg, 40), short]);
     assert_eq!((report(&model).phase, report(&model).current), (phase::TRICKLE, 100));
 }
 
 #[test]
 fn precharge_is_not_scaled_by_the_band() {
     let cool = Event::Observe(Sample { vbat: 5_000, ts: 69_000, ..sample() });
-    let model = run(powered(profile()), &[cool]);
+    let model = run(powered(PROFILE), &[cool]);
     assert_eq!(band(&model), Band::Cool);
     assert_eq!((report(&model).phase, report(&model).current), (phase::PRECHARGE, 120));
 }
@@ -147,7 +136,7 @@ fn precharge_is_not_scaled_by_the_band() {
 #[test]
 fn seven_cells_cut_by_250_gives_650() {
     let warm = Event::Observe(Sample { vbat: 2_000, ts: 44_000, ..sample() });
-    let model = powered(Profile { cell: 7, ..profile() });
+    let model = powered(Profile { cell: 7, ..PROFILE });
     let model = run(model, &[set(Setting::Vreg, 2_400), write(0x19, 0xB7), warm]);
     assert_eq!(band(&model), Band::Warm);
     assert_eq!(report(&model).voltage, 650);
@@ -155,14 +144,14 @@ fn seven_cells_cut_by_250_gives_650() {
 
 #[test]
 fn stamps_wrap() {
-    let model = powered(Profile { stamp: u32::MAX, watchdog: 1, ..profile() });
+    let model = powered(Profile { stamp: u32::MAX, watchdog: 1, ..PROFILE });
     let model = run(model, &[Event::Observe(Sample { stamp: 0, ..sample() })]);
     assert_eq!(state(&model).watchdog, 1);
 }
 
 #[test]
 fn stamps_may_be_an_hour_ahead() {
-    let model = powered(Profile { stamp: 100, ..profile() });
+    let model = powered(Profile { stamp: 100, ..PROFILE });
     for (ahead, refusal) in [
         (0, None),
         (3_600_000, None),
@@ -229,7 +218,7 @@ fn the_byte_that_decided_it() {
 fn time_goes_to_the_phase_before_the_sample() {
     let short = Event::Observe(Sample { vbat: 1_000, ..sample() });
     let fast = Event::Observe(Sample { stamp: 2_500, ..sample() });
-    let model = run(powered(profile()), &[short, fast]);
+    let model = run(powered(PROFILE), &[short, fast]);
     assert_eq!(report(&model).phase, phase::FAST);
     assert_eq!(state(&model).cycle.times.trickle, 3_000);
     assert_eq!(state(&model).cycle.times.fast, 0);
@@ -239,14 +228,14 @@ fn time_goes_to_the_phase_before_the_sample() {
 fn regulation_halves_the_rate() {
     let regulated = Event::Observe(Sample { bits: IINDPM, ..sample() });
     let free = Event::Observe(Sample { stamp: 2_500, ..sample() });
-    let model = run(powered(profile()), &[regulated, free]);
+    let model = run(powered(PROFILE), &[regulated, free]);
     assert_eq!(state(&model).cycle.times.fast, 1_500);
 }
 
 #[test]
 fn a_charge_ends_and_restarts() {
     let at = |stamp, vbat, ibat| Event::Observe(Sample { stamp, vbat, ibat, ..sample() });
-    let model = run(powered(profile()), &[at(1_000, 8_390, 500)]);
+    let model = run(powered(PROFILE), &[at(1_000, 8_390, 500)]);
     assert_eq!(report(&model).phase, phase::TAPER);
     let model = run(model, &[at(2_000, 8_400, 60)]);
     assert_eq!(report(&model).phase, phase::TAPER);
@@ -261,7 +250,7 @@ fn a_charge_ends_and_restarts() {
 #[test]
 fn the_pin_of_high_impedance_counts_only_where_enabled() {
     let high = Event::Observe(Sample { bits: HIZ_PIN, ..sample() });
-    let model = run(powered(profile()), &[high]);
+    let model = run(powered(PROFILE), &[high]);
     assert_eq!(report(&model).phase, phase::IDLE);
     let model = run(model, &[set(Setting::EnExtilim, 0)]);
     assert_eq!(report(&model).phase, phase::FAST);
@@ -270,7 +259,7 @@ fn the_pin_of_high_impedance_counts_only_where_enabled() {
 #[test]
 fn refusals_in_the_models_order() {
     let refusal = |model: &Model, event| model.step(&event).refusal;
-    let on = powered(profile());
+    let on = powered(PROFILE);
     let bad_sample = Sample { stamp: u32::MAX, bits: 64, ..sample() };
     let none = [write(0, 999), set(Setting::Vreg, 0), Event::Observe(bad_sample), Event::TakeFlags];
     for event in none {
@@ -295,7 +284,7 @@ fn refusals_in_the_models_order() {
 #[test]
 fn a_reset_leaves_what_it_should() {
     let model = run(
-        powered(profile()),
+        powered(PROFILE),
         &[
             write(0x19, 0x00),
             write(0x1B, 0xC0),

@@ -1,6 +1,8 @@
 //! The register map: what is read at every address, what a register reset and
 //! the watchdog leave of the stored fields, and which bits are none.
 
+mod example;
+
 use reference::generate::{any_state, times, Rng};
 use reference::map::{Field, Holds, FIELDS, LAST};
 use reference::stored::{Stored, LENGTH, WRITABLE};
@@ -8,19 +10,8 @@ use reference::{
     may_hold, read_register, Event, Model, Profile, Refusal, Sample, Setting, State, Step,
 };
 
-/// Two cells at 4,200, 1,500 mA.
-const PROFILE: Profile = Profile {
-    cell: 2,
-    vchg: 5,
-    ichg: 4,
-    ohms: 0,
-    stamp: 0,
-    ceiling: 4_500,
-    trickle: 3_600,
-    precharge: 7_200,
-    fast: 36_000,
-    watchdog: 40,
-};
+/// The example's, with a watchdog.
+const PROFILE: Profile = Profile { watchdog: 40, ..example::PROFILE };
 
 /// What is read right after that power-on, worked out by hand from the sheet
 /// and 01's start values.

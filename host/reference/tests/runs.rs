@@ -1,6 +1,8 @@
 //! Runs of written bytes (kind 8) and reads that clear a flag register (kind
 //! 14): their spelling, their refusals in order, and what they do.
 
+mod example;
+
 use std::collections::BTreeSet;
 
 use reference::generate::{
@@ -14,19 +16,8 @@ use reference::{
     State, Step,
 };
 
-/// Two cells at 4,200, 1,500 mA.
-const PROFILE: Profile = Profile {
-    cell: 2,
-    vchg: 5,
-    ichg: 4,
-    ohms: 0,
-    stamp: 0,
-    ceiling: 4_500,
-    trickle: 3_600,
-    precharge: 7_200,
-    fast: 36_000,
-    watchdog: 40,
-};
+/// The example's, with a watchdog.
+const PROFILE: Profile = Profile { watchdog: 40, ..example::PROFILE };
 
 /// The registers of sixteen bits, by the sheet.
 const WIDE: [u32; 8] = [0x00, 0x02, 0x04, 0x06, 0x08, 0x0A, 0x0C, 0x24];

@@ -1,6 +1,7 @@
 //! Two thermistors, kind 10: its spelling and its ranges, the band of both, that
 //! equal values act as kind 5, and what the generators reach of it.
 
+mod example;
 mod lines;
 
 use std::collections::BTreeSet;
@@ -11,25 +12,12 @@ use reference::generate::{
 use reference::settle::base_voltage;
 use reference::state::phase;
 use reference::{
-    band, number, partlog, read_register, record, report, stat, Band, Event, Model, Profile,
-    Reading, Refusal, Report, Sample, Stat, State, Step, TwoSample,
+    band, number, partlog, read_register, record, report, stat, Band, Event, Model, Reading,
+    Refusal, Report, Sample, Stat, State, Step, TwoSample,
 };
 
+use example::PROFILE;
 use lines::{held, lines};
-
-/// Two cells at 4,200, 1,500 mA.
-const PROFILE: Profile = Profile {
-    cell: 2,
-    vchg: 5,
-    ichg: 4,
-    ohms: 0,
-    stamp: 0,
-    ceiling: 4_500,
-    trickle: 3_600,
-    precharge: 7_200,
-    fast: 36_000,
-    watchdog: 0,
-};
 
 /// The least and the most TS of each band by the registers' resets: TH1 75,320,
 /// TH2 68,250, TH3 44,750, TH5 34,375.
