@@ -1,6 +1,6 @@
 -- 01, "Slips to exclude": each slip as this product with the slip in it; and two more of the same kind, in the sums of stage times.
 use Prim.Native.Nat.{ℕ, _*_, _/_}
-use mathlib.Core.Bool.{Bool, true, false, _&&_}
+use mathlib.Core.Bool.{Bool, true, _&&_}
 use lib.Dec.{leb, eqb}
 use Rattle.base.specs.Pick.{pick, bitOf}
 use Rattle.base.specs.Stamps.{elapsedOf}

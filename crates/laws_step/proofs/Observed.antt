@@ -15,7 +15,6 @@ use Rattle.state_valid.specs.Holds.{stateOk}
 use Rattle.settle_all.specs.Settle.{forcedOf, settledOf, settleOf}
 use Rattle.step_turns.specs.Turns.{turnOf}
 use Rattle.step_turns.specs.declared.later.Later.the-variants.{Observe}
-use Rattle.step_turns.specs.declared.turn.Turn.{Turn}
 use Rattle.step_turns.specs.declared.turn.Turn.the-variants.{Follows, FollowsOutside}
 use Rattle.step_turns.proofs.Fitting.{equal-say-five}
 use Rattle.step_turns.proofs.Sampling.{observes-as-said}

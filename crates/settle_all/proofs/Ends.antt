@@ -1,5 +1,5 @@
 -- Settling reads the two thermistors by their joined band alone, so it doesn't matter which is which.
-use mathlib.Core.Path.{_≡_, ap}
+use mathlib.Core.Path.{ap}
 use Rattle.settle_bands.proofs.Joining.{either-end}
 use Rattle.settle_levels.specs.Comparators.{shortOf, lowOf, packOverOf, latchesOf}
 use Rattle.settle_levels.specs.Voltage.{taperOf, belowRecharge}
@@ -7,7 +7,6 @@ use Rattle.settle_permission.specs.Bits.{regulatedOf}
 use Rattle.settle_permission.specs.Ending.{endingOf}
 use Rattle.settle_permission.specs.Permission.{permittedOf}
 use Rattle.state_parts.specs.declared.band.Band.{Band}
-use Rattle.state_parts.specs.declared.state.State.{State}
 use Rattle.settle_all.specs.Gather.{testsOf}
 use Rattle.settle_all.specs.Settle.{forcedOf, settledOf, settleOf}
 use Rattle.settle_all.specs.Theorems.{otherWay, EndsAlike}

@@ -1,6 +1,6 @@
 -- The join of two thermistors' bands is what the request says, and whatever is so is this join.
 use mathlib.Core.Path.{_≡_, refl, sym, ap, _∙_}
-use mathlib.Core.Bool.{true, false, _&&_, or-comm}
+use mathlib.Core.Bool.{false, _&&_, or-comm}
 use Rattle.state_parts.specs.declared.band.Band.{Band}
 use Rattle.state_parts.specs.declared.band.Band.the-variants as pack
 use Rattle.state_parts.specs.declared.band.TsBand.{TsBand}
@@ -8,7 +8,7 @@ use Rattle.state_parts.specs.declared.band.TsBand.the-variants.{Normal, Cold, C
 use Rattle.settle_bands.specs.Thresholds.{bandOf}
 use Rattle.settle_bands.specs.Effect.{suspendsOf}
 use Rattle.settle_bands.specs.Joined.{isBand, either, firstJoined, joinedOf, packBandOf}
-use Rattle.settle_bands.specs.Joining.{alone, Joins, JoinsAsSaid, JoinedSuspends, exchanged, EitherEnd, EqualActAsOne}
+use Rattle.settle_bands.specs.Joining.{alone, Joins, JoinsAsSaid, JoinedSuspends, EitherEnd, EqualActAsOne}
 
 swapped : (is a b : TsBand) → either is a b ≡ either is b a
 unfolding either
