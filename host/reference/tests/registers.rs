@@ -2,13 +2,14 @@
 //! the watchdog leave of the stored fields, and which bits are none.
 
 mod example;
+mod left;
 
 use reference::generate::{any_state, times, Rng};
 use reference::map::{Field, Holds, FIELDS, LAST};
 use reference::stored::{Stored, LENGTH, WRITABLE};
-use reference::{
-    may_hold, read_register, Event, Model, Profile, Refusal, Sample, Setting, State, Step,
-};
+use reference::{may_hold, read_register, Event, Model, Profile, Refusal, Sample, Setting, State};
+
+use left::on;
 
 /// The example's, with a watchdog.
 const PROFILE: Profile = Profile { watchdog: 40, ..example::PROFILE };
@@ -33,13 +34,6 @@ const UNMARKED: [&str; 3] = ["VINDPM", "STOP_WD_CHG", "EN_BYPASS_LL_EXIT"];
 
 fn powered() -> State {
     on(&Model::Off.step(&Event::PowerOn(PROFILE)))
-}
-
-fn on(step: &Step) -> State {
-    match step.model {
-        Model::On(state) => state,
-        Model::Off => panic!("not powered"),
-    }
 }
 
 /// The state after an accepted event.

@@ -2,6 +2,7 @@
 //! 14): their spelling, their refusals in order, and what they do.
 
 mod example;
+mod left;
 
 use std::collections::BTreeSet;
 
@@ -16,6 +17,8 @@ use reference::{
     State, Step,
 };
 
+use left::on;
+
 /// The example's, with a watchdog.
 const PROFILE: Profile = Profile { watchdog: 40, ..example::PROFILE };
 
@@ -24,13 +27,6 @@ const WIDE: [u32; 8] = [0x00, 0x02, 0x04, 0x06, 0x08, 0x0A, 0x0C, 0x24];
 
 fn powered() -> State {
     on(&Model::Off.step(&Event::PowerOn(PROFILE)))
-}
-
-fn on(step: &Step) -> State {
-    match step.model {
-        Model::On(state) => state,
-        Model::Off => panic!("not powered"),
-    }
 }
 
 fn run(address: u32, bytes: &[u8]) -> Event {

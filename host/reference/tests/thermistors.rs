@@ -2,6 +2,7 @@
 //! equal values act as kind 5, and what the generators reach of it.
 
 mod example;
+mod left;
 mod lines;
 
 use std::collections::BTreeSet;
@@ -17,6 +18,7 @@ use reference::{
 };
 
 use example::PROFILE;
+use left::on;
 use lines::{held, lines};
 
 /// The least and the most TS of each band by the registers' resets: TH1 75,320,
@@ -47,13 +49,6 @@ const TABLE: [[u32; 5]; 5] =
 
 fn powered() -> State {
     on(&Model::Off.step(&Event::PowerOn(PROFILE)))
-}
-
-fn on(step: &Step) -> State {
-    match step.model {
-        Model::On(state) => state,
-        Model::Off => panic!("not powered"),
-    }
 }
 
 fn give(state: &State, event: &Event) -> Step {
