@@ -32,7 +32,7 @@ use Rattle.laws_third.proofs.Cycling.{was-means, reached-means, within-means, r
 use Rattle.laws_third.proofs.Charges.{faulty, chargesAt}
 use Rattle.laws_third.proofs.Charging.{tests-mean}
 use Rattle.laws_witness.specs.Days.{day, slow, unattended, beside, packs, inputs, stays, warm}
-use Rattle.laws_witness.specs.Clauses.{Part, goodInput, permission, noFault, noSuspension, notDone, noLimit, partOf, Stop, wants, coolBesideWarm, wanted, stopped, placeOf, Clause, part, okInput, overInput, shorted, lowPack, overPack, tapers, belowRecharge, atVoltage, atEnd, banded, reached, restarted, started, ends, ended, staysDone, charges, inTrickle, inPrecharge, otherwise, clamped, clauseOf, meeting, failing, EachTried, EachAlone}
+use Rattle.laws_witness.specs.Clauses.{Part, goodInput, permission, noFault, noSuspension, notDone, noLimit, partOf, Stop, lacks, coolBesideWarm, lacking, stopped, placeOf, Clause, part, okInput, overInput, shorted, lowPack, overPack, tapers, belowRecharge, atVoltage, atEnd, banded, reached, restarted, started, ends, ended, staysDone, charges, inTrickle, inPrecharge, otherwise, clamped, clauseOf, meeting, failing, EachTried, EachAlone}
 use Rattle.laws_witness.proofs.Accepting.{accepts, accepts-means}
 
 -- the test of each part and of each clause
@@ -193,17 +193,17 @@ partTests r =
 abbrev others : ℕ → List Bool
 others n = not (eqb n 0) ∷ not (eqb n 1) ∷ not (eqb n 2) ∷ not (eqb n 3) ∷ not (eqb n 4) ∷ not (eqb n 5) ∷ []
 
-stopped-tests : (c : Stop) → partTests (stopped c) ≡ others (placeOf (wanted c))
+stopped-tests : (c : Stop) → partTests (stopped c) ≡ others (placeOf (lacking c))
 unfolding day slow unattended beside packs inputs stays inPack belowShare since sumAfter count upTo profileOf sampleOf elapsed wasObserved wasReset wasServed unserved expired cellsOf fieldAt pinFault startValue settingOf vbat packClamp baseAt inputOk inputOver inputGood short low packOver tsBandAt bandAt suspended chargeVoltage permitted tapering rechargeDue ending unitsAfter gave isDone wasDone restarts starts timeIn timeFound limitFound fault chargeEnds phaseBy limitReached phasesOf phaseAt
-stopped-tests (wants goodInput) = refl
-stopped-tests (wants permission) = refl
-stopped-tests (wants noFault) = refl
-stopped-tests (wants noSuspension) = refl
-stopped-tests (wants notDone) = refl
-stopped-tests (wants noLimit) = refl
+stopped-tests (lacks goodInput) = refl
+stopped-tests (lacks permission) = refl
+stopped-tests (lacks noFault) = refl
+stopped-tests (lacks noSuspension) = refl
+stopped-tests (lacks notDone) = refl
+stopped-tests (lacks noLimit) = refl
 stopped-tests coolBesideWarm = refl
 
-at-place : (c : Stop) (d : Part) → partTest d (stopped c) ≡ not (eqb (placeOf (wanted c)) (placeOf d))
+at-place : (c : Stop) (d : Part) → partTest d (stopped c) ≡ not (eqb (placeOf (lacking c)) (placeOf d))
 at-place c goodInput = ap (λ l. getD l 0 false) (stopped-tests c)
 at-place c permission = ap (λ l. getD l 1 false) (stopped-tests c)
 at-place c noFault = ap (λ l. getD l 2 false) (stopped-tests c)
@@ -216,7 +216,7 @@ own-place p = eq-eqb (placeOf p) (placeOf p) refl
 
 -- of cool beside warm it is computed that its run is accepted, of the others each clause has it
 stopped-accepted : (c : Stop) → Accepted (stopped c)
-stopped-accepted (wants p) = each-tried (part p) .failed
+stopped-accepted (lacks p) = each-tried (part p) .failed
 stopped-accepted coolBesideWarm = each-tried (banded Mixed) .met
 
 pub each-alone : EachAlone
@@ -224,6 +224,6 @@ each-alone c =
     let a = stopped-accepted c in
     record {
       accepted = a;
-      fails = λ h. true≢false (sym (part-means (wanted c) (stopped c) a .test h) ∙ at-place c (wanted c) ∙ ap not (own-place (wanted c)));
+      fails = λ h. true≢false (sym (part-means (lacking c) (stopped c) a .test h) ∙ at-place c (lacking c) ∙ ap not (own-place (lacking c)));
       others = λ d e. part-means d (stopped c) a .fact (at-place c d ∙ ap not e);
     }

@@ -34,20 +34,20 @@ partOf noLimit r = (s : Stage) → ¬ Reached s r
 
 -- a charge that doesn't run, for want of one of these: of each, and of a temperature that doesn't suspend once more, 02, R-7: by cool beside warm, of which neither would suspend alone
 pub data Stop : Type 0 where
-  wants : Part → Stop
+  lacks : Part → Stop
   coolBesideWarm : Stop
 
-abbrev pub wanted : Stop → Part
-wanted (wants p) = p
-wanted coolBesideWarm = noSuspension
+abbrev pub lacking : Stop → Part
+lacking (lacks p) = p
+lacking coolBesideWarm = noSuspension
 
 abbrev pub stopped : Stop → Run
-stopped (wants goodInput) = inputs 12000 2000
-stopped (wants permission) = dayAt 3 ▸ Set 9 0
-stopped (wants noFault) = dayAt 3 ▸ sees 4000 12000 7000 500 55000 32
-stopped (wants noSuspension) = mild 80000
-stopped (wants notDone) = dayAt 5
-stopped (wants noLimit) = dayAt 9
+stopped (lacks goodInput) = inputs 12000 2000
+stopped (lacks permission) = dayAt 3 ▸ Set 9 0
+stopped (lacks noFault) = dayAt 3 ▸ sees 4000 12000 7000 500 55000 32
+stopped (lacks noSuspension) = mild 80000
+stopped (lacks notDone) = dayAt 5
+stopped (lacks noLimit) = dayAt 9
 stopped coolBesideWarm = beside 70000 40000
 
 abbrev pub placeOf : Part → ℕ
@@ -149,7 +149,7 @@ meeting otherwise = dayAt 3
 meeting clamped = unattended 40000
 
 abbrev pub failing : Clause → Run
-failing (part p) = stopped (wants p)
+failing (part p) = stopped (lacks p)
 failing okInput = inputs 0 2400
 failing overInput = inputs 12000 35000
 failing shorted = packs 7000 4000
@@ -192,8 +192,8 @@ EachTried = (c : Clause) → Tried c
 -- no part of "exactly when" follows from the others: where one fails, in a run of accepted events, all others may hold
 pub record FailsAlone (c : Stop) : Type 0 where
   pub accepted : Accepted (stopped c)
-  pub fails : ¬ partOf (wanted c) (stopped c)
-  pub others : (d : Part) → eqb (placeOf (wanted c)) (placeOf d) ≡ false → partOf d (stopped c)
+  pub fails : ¬ partOf (lacking c) (stopped c)
+  pub others : (d : Part) → eqb (placeOf (lacking c)) (placeOf d) ≡ false → partOf d (stopped c)
 
 abbrev pub EachAlone : Type 0
 EachAlone = (c : Stop) → FailsAlone c
