@@ -22,9 +22,9 @@ zeros (suc k) = 0 ∷ zeros k
 
 -- "CHEUKDANE_FORMAT": the number of this list of numbers, and of the rules that make them: a landing that changes the list, or what a log means, gives it another. It is never 0.
 abbrev pub imageFormat : ℕ
-imageFormat = 7
+imageFormat = 8
 
--- "56 words. Word 0 is 0 before a power-on, and then all other words are 0 too; after it, it is the format's number, CHEUKDANE_FORMAT, and the state's numbers follow".
+-- "58 words. Word 0 is 0 before a power-on, and then all other words are 0 too; after it, it is the format's number, CHEUKDANE_FORMAT, and the state's numbers follow".
 abbrev pub modelNumbers : Model → List ℕ
 modelNumbers Off = 0 ∷ zeros stateCount
 modelNumbers (On s) = imageFormat ∷ stateNumbers s

@@ -28,7 +28,7 @@ OneImage = (bytes : List ℕ) (m : Model) → modelIn bytes ≡ accepted m → b
 
 -- every image has the header's length
 abbrev pub ImageLong : Type 0
-ImageLong = (m : Model) → length (imageOf m) ≡ 224
+ImageLong = (m : Model) → length (imageOf m) ≡ 232
 
 -- two models never have one image
 abbrev pub ImagesDiffer : Type 0
@@ -40,7 +40,7 @@ FormatNotZero = imageFormat ≢ 0
 
 -- "zeroed bytes are the image of a model that is off", in every format
 abbrev pub OffIsZeros : Type 0
-OffIsZeros = imageOf Off ≡ zeros 224
+OffIsZeros = imageOf Off ≡ zeros 232
 
 -- "an image of another format is 5"
 abbrev pub OtherFormat : Type 0
@@ -48,4 +48,4 @@ OtherFormat = (bytes : List ℕ) → wordAt bytes 0 ≢ 0 → wordAt bytes 0 ≢
 
 -- "an older one too": format 1 was the base's, whose recharge point was another, so that a log had led to other states (02, R-1); format 2 told a refusal's place otherwise (R-4); format 3 had no kind 9 (R-5); format 4 held eight registers, format 5 had no kinds 8 and 14 (R-3), and format 6 held one thermistor (R-7)
 abbrev pub OlderFormat : Type 0
-OlderFormat = (bytes : List ℕ) → wordAt bytes 0 ≢ 0 → wordAt bytes 0 < 7 → modelIn bytes ≡ refused 5
+OlderFormat = (bytes : List ℕ) → wordAt bytes 0 ≢ 0 → wordAt bytes 0 < 8 → modelIn bytes ≡ refused 5

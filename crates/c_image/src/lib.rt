@@ -13,7 +13,7 @@ ghost use Rattle.c_image.specs.Contracts.{LoadPromise, SavePromise};
 
 // The first word of the image of a model that is on: the number of this list of a state's numbers and of the rules that make them (`imageFormat`). Never 0, the first word of a model
 // that is off.
-const FORMAT: u32 = 7;
+const FORMAT: u32 = 8;
 
 // An image's bytes: four to a word, the first word and the state's numbers (`imageLength`).
 const LENGTH: usize = 4 + COUNT * 4;

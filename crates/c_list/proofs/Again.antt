@@ -6,9 +6,9 @@ use native.Mathlib.Omega.{arith}
 use lib.Dec.{eqb}
 use Rattle.base.specs.Pick.{bitOf}
 use Rattle.state_parts.specs.Edges.{allFlags}
-use Rattle.state_parts.specs.Numbers.{phaseNumber, bandNumber}
-use Rattle.state_parts.specs.declared.band.Band.{Band}
-use Rattle.state_parts.specs.declared.band.Band.the-variants.{Normal, Cold, Hot, Cool, Warm, Mixed}
+use Rattle.state_parts.specs.Numbers.{phaseNumber, tsBandNumber}
+use Rattle.state_parts.specs.declared.band.TsBand.{TsBand}
+use Rattle.state_parts.specs.declared.band.TsBand.the-variants.{Normal, Cold, Hot, Cool, Warm}
 use Rattle.state_parts.specs.declared.phase.Phase.{Phase}
 use Rattle.state_parts.specs.declared.phase.Phase.the-variants.{Idle, Trickle, Precharge, Fast, Taper, Done, Suspended, Fault}
 use Rattle.state_settings.specs.Numbered.{settingNumbers}
@@ -35,13 +35,12 @@ phase-back Done = refl
 phase-back Suspended = refl
 phase-back Fault = refl
 
-band-back : (b : Band) → bandFrom (bandNumber b) ≡ b
+band-back : (b : TsBand) → bandFrom (tsBandNumber b) ≡ b
 band-back Normal = refl
 band-back Cold = refl
 band-back Hot = refl
 band-back Cool = refl
 band-back Warm = refl
-band-back Mixed = refl
 
 halves-back : (n : ℕ) → n % 0x100000000 + n / 0x100000000 * 0x100000000 ≡ n
 halves-back n = omega arith
@@ -58,7 +57,8 @@ made-again s h =
       halves-back (w .w4),
       signs .back (s .sample .ibat),
       phase-back (s .phase),
-      band-back (s .band),
+      band-back (s .bands .first),
+      band-back (s .bands .second),
       flags-back (s .flags) h,
       test-back (s .settings .enchg),
       test-back (s .settings .enterm),

@@ -7,9 +7,10 @@ use lib.Dec.{eqb}
 use Rattle.base.specs.Pick.{pick}
 use Rattle.base.specs.Volts.{packOf}
 use Rattle.state_parts.specs.Edges.{allFlags}
-use Rattle.state_parts.specs.Numbers.{phaseNumber, bandNumber}
-use Rattle.state_parts.specs.declared.band.Band.{Band}
-use Rattle.state_parts.specs.declared.band.Band.the-variants.{Normal, Cold, Hot, Cool, Warm, Mixed}
+use Rattle.state_parts.specs.Numbers.{phaseNumber, tsBandNumber}
+use Rattle.state_parts.specs.declared.band.Bands.{Bands}
+use Rattle.state_parts.specs.declared.band.TsBand.{TsBand}
+use Rattle.state_parts.specs.declared.band.TsBand.the-variants.{Normal, Cold, Hot, Cool, Warm}
 use Rattle.state_parts.specs.declared.phase.Phase.{Phase}
 use Rattle.state_parts.specs.declared.phase.Phase.the-variants.{Idle, Trickle, Precharge, Fast, Taper, Done, Suspended, Fault}
 use Rattle.state_parts.specs.declared.profile.Profile.{Profile}
@@ -21,7 +22,7 @@ use Rattle.state_parts.specs.declared.watchdog.Watchdog.{Watchdog}
 use Rattle.state_parts.specs.declared.sample.Sample.{Sample}
 use Rattle.state_parts.specs.declared.state.State.{State}
 use Rattle.log_number.specs.Ibat.{signedOf}
-use Rattle.c_list.specs.Places.{profilePlace, settingsPlace, registersPlace, latchesPlace, cyclePlace, watchdogPlace, samplePlace, phasePlace, bandPlace, flagsPlace}
+use Rattle.c_list.specs.Places.{profilePlace, settingsPlace, registersPlace, latchesPlace, cyclePlace, watchdogPlace, samplePlace, phasePlace, bandsPlace, flagsPlace}
 
 -- the i-th number of a part that starts at a place of the list
 abbrev number : List ℕ → ℕ → ℕ → ℕ
@@ -37,7 +38,7 @@ whole low high = low + high * 0x100000000
 abbrev pub profileFrom : List ℕ → ℕ → Profile
 profileFrom all at =
     let n = number all at in
-    record { cell = n 0; vchg = n 1; ichg = n 2; ohms = n 3; stamp = n 4; ceiling = n 5; trickle = n 6; precharge = n 7; fast = n 8; watchdog = n 9 }
+    record { cell = n 0; vchg = n 1; ichg = n 2; ohms = n 3; stamp = n 4; ceiling = n 5; trickle = n 6; precharge = n 7; fast = n 8; watchdog = n 9; edition = n 10 }
 
 abbrev pub settingsFrom : List ℕ → ℕ → Settings
 settingsFrom all at =
@@ -91,8 +92,11 @@ whose f n (a ∷ rest) other = pick (eqb n (f a)) a (whose f n rest other)
 abbrev pub phaseFrom : ℕ → Phase
 phaseFrom n = whose phaseNumber n (Idle ∷ Trickle ∷ Precharge ∷ Fast ∷ Taper ∷ Done ∷ Suspended ∷ []) Fault
 
-abbrev pub bandFrom : ℕ → Band
-bandFrom n = whose bandNumber n (Normal ∷ Cold ∷ Hot ∷ Cool ∷ Warm ∷ []) Mixed
+abbrev pub bandFrom : ℕ → TsBand
+bandFrom n = whose tsBandNumber n (Normal ∷ Cold ∷ Hot ∷ Cool ∷ []) Warm
+
+abbrev pub bandsFrom : List ℕ → ℕ → Bands
+bandsFrom all at = record { first = bandFrom (number all at 0); second = bandFrom (number all at 1) }
 
 -- twelve flags at most
 abbrev pub flagsFrom : ℕ → ℕ
@@ -108,6 +112,6 @@ stateFrom all = record {
   watchdog = watchdogFrom all watchdogPlace;
   sample = sampleFrom all samplePlace;
   phase = phaseFrom (number all phasePlace 0);
-  band = bandFrom (number all bandPlace 0);
+  bands = bandsFrom all bandsPlace;
   flags = flagsFrom (number all flagsPlace 0);
 }

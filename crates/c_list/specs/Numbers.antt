@@ -4,7 +4,7 @@ use mathlib.Core.Path.{_≡_}
 use mathlib.Core.List.{List, [], _∷_, _++_}
 use lib.ListN.{length, drop}
 use Rattle.base.specs.Pick.{bitOf}
-use Rattle.state_parts.specs.Numbers.{phaseNumber, bandNumber}
+use Rattle.state_parts.specs.Numbers.{phaseNumber, tsBandNumber}
 use Rattle.state_parts.specs.declared.profile.Profile.{Profile}
 use Rattle.state_parts.specs.declared.settings.Settings.{Settings}
 use Rattle.state_parts.specs.declared.registers.Registers.{Registers}
@@ -17,9 +17,9 @@ use Rattle.state_settings.specs.Numbered.{settingNumbers}
 use Rattle.log_number.specs.Ibat.{loggedOf}
 use Rattle.c_list.specs.Places.{stateCount}
 
--- "a power-on's ten numbers, in the log's order"
+-- "a power-on's eleven numbers, in kind 11's order"
 abbrev pub profileNumbers : Profile → List ℕ
-profileNumbers p = p .cell ∷ p .vchg ∷ p .ichg ∷ p .ohms ∷ p .stamp ∷ p .ceiling ∷ p .trickle ∷ p .precharge ∷ p .fast ∷ p .watchdog ∷ []
+profileNumbers p = p .cell ∷ p .vchg ∷ p .ichg ∷ p .ohms ∷ p .stamp ∷ p .ceiling ∷ p .trickle ∷ p .precharge ∷ p .fast ∷ p .watchdog ∷ p .edition ∷ []
 
 -- "settings 1 to 14": by their numbers, from 1
 abbrev pub settingsNumbers : Settings → List ℕ
@@ -54,9 +54,9 @@ watchdogNumbers w = w .count ∷ []
 abbrev pub sampleNumbers : Sample → List ℕ
 sampleNumbers x = x .stamp ∷ x .input ∷ x .pack ∷ loggedOf (x .ibat) ∷ x .ts ∷ x .secondts ∷ x .bits ∷ []
 
--- "0 to 7"; "0 normal, 1 cold, 2 hot, 3 cool, 4 warm, 7 mixed"; "the held flags, bits 0 to 11"
+-- "0 to 7"; each thermistor's, "0 normal, 1 cold, 2 hot, 3 cool, 4 warm"; "the held flags, bits 0 to 11"
 abbrev pub judgedNumbers : State → List ℕ
-judgedNumbers s = phaseNumber (s .phase) ∷ bandNumber (s .band) ∷ s .flags ∷ []
+judgedNumbers s = phaseNumber (s .phase) ∷ tsBandNumber (s .bands .first) ∷ tsBandNumber (s .bands .second) ∷ s .flags ∷ []
 
 unfoldable pub stateNumbers : State → List ℕ
 stateNumbers s =

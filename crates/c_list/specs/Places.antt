@@ -2,7 +2,7 @@
 use Prim.Native.Nat.{ℕ, _+_}
 
 abbrev profileCount : ℕ
-profileCount = 10
+profileCount = 11
 
 abbrev settingsCount : ℕ
 settingsCount = 14
@@ -25,8 +25,8 @@ sampleCount = 7
 abbrev phaseCount : ℕ
 phaseCount = 1
 
-abbrev bandCount : ℕ
-bandCount = 1
+abbrev bandsCount : ℕ
+bandsCount = 2
 
 abbrev flagsCount : ℕ
 flagsCount = 1
@@ -55,11 +55,11 @@ samplePlace = watchdogPlace + watchdogCount
 abbrev pub phasePlace : ℕ
 phasePlace = samplePlace + sampleCount
 
-abbrev pub bandPlace : ℕ
-bandPlace = phasePlace + phaseCount
+abbrev pub bandsPlace : ℕ
+bandsPlace = phasePlace + phaseCount
 
 abbrev pub flagsPlace : ℕ
-flagsPlace = bandPlace + bandCount
+flagsPlace = bandsPlace + bandsCount
 
 -- how many there are
 abbrev pub stateCount : ℕ

@@ -1,5 +1,5 @@
 // A state's numbers, one list: each part stores its own.
-use crate::places::BAND;
+use crate::places::BANDS;
 use crate::places::COUNT;
 use crate::places::CYCLE;
 use crate::places::FLAGS;
@@ -43,6 +43,7 @@ fn with_profile(before: Numbers, p: Profile) -> Numbers
     all[7] = p.precharge;
     all[8] = p.fast;
     all[9] = p.watchdog;
+    all[10] = p.edition;
     all
 }
 
@@ -146,10 +147,13 @@ fn with_judged(before: Numbers, s: State) -> Numbers
     ensures { λ r. ⌜ r ≡ sets before phasePlace (judgedNumbers s) ⌝ }
 {
     let at = s.phase;
-    let band = s.band;
+    let bands = s.bands;
+    let first = bands.first;
+    let second = bands.second;
     let mut all = before;
     all[PHASE] = phase::number(at);
-    all[BAND] = band::number(band);
+    all[BANDS] = band::ts_number(first);
+    all[BANDS + 1] = band::ts_number(second);
     all[FLAGS] = s.flags;
     all
 }

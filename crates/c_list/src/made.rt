@@ -1,6 +1,6 @@
 // A state out of a list of numbers: every list makes one.
 use crate::list::Numbers;
-use crate::places::BAND;
+use crate::places::BANDS;
 use crate::places::CYCLE;
 use crate::places::FLAGS;
 use crate::places::LATCHES;
@@ -11,7 +11,8 @@ use crate::places::SETTINGS;
 use crate::places::WATCHDOG;
 use base::volts;
 use log_number::ibat;
-use state_parts::band::Band;
+use state_parts::band::Bands;
+use state_parts::band::TsBand;
 use state_parts::cycle::Cycle;
 use state_parts::latches::Latches;
 use state_parts::phase::Phase;
@@ -24,8 +25,8 @@ use state_parts::watchdog::Watchdog;
 use state_parts::words::Words;
 ghost use Prim.Native.Nat.{_+_, _*_};
 ghost use mathlib.Core.Path.{_≡_};
-ghost use Rattle.c_list.specs.Places.{profilePlace, settingsPlace, registersPlace, latchesPlace, cyclePlace, samplePlace};
-ghost use Rattle.c_list.specs.Back.{profileFrom, settingsFrom, registersFrom, latchesFrom, cycleFrom, sampleFrom, phaseFrom, bandFrom, stateFrom};
+ghost use Rattle.c_list.specs.Places.{profilePlace, settingsPlace, registersPlace, latchesPlace, cyclePlace, samplePlace, bandsPlace};
+ghost use Rattle.c_list.specs.Back.{profileFrom, settingsFrom, registersFrom, latchesFrom, cycleFrom, sampleFrom, phaseFrom, bandFrom, bandsFrom, stateFrom};
 
 fn profile(all: Numbers) -> Profile
     ensures { λ r. ⌜ r ≡ profileFrom all profilePlace ⌝ }
@@ -41,6 +42,7 @@ fn profile(all: Numbers) -> Profile
         precharge: all[7],
         fast: all[8],
         watchdog: all[9],
+        edition: all[10],
     }
 }
 
@@ -145,17 +147,24 @@ fn phase(n: u32) -> Phase
 }
 
 // The band of a number.
-fn band(n: u32) -> Band
+fn band(n: u32) -> TsBand
     ensures { λ r. ⌜ r ≡ bandFrom n ⌝ }
 {
     match n {
-        0 => Band::Normal,
-        1 => Band::Cold,
-        2 => Band::Hot,
-        3 => Band::Cool,
-        4 => Band::Warm,
-        _ => Band::Mixed,
+        0 => TsBand::Normal,
+        1 => TsBand::Cold,
+        2 => TsBand::Hot,
+        3 => TsBand::Cool,
+        _ => TsBand::Warm,
     }
+}
+
+fn bands(all: Numbers) -> Bands
+    ensures { λ r. ⌜ r ≡ bandsFrom all bandsPlace ⌝ }
+{
+    let first = band(all[BANDS]);
+    let second = band(all[BANDS + 1]);
+    Bands { first, second }
 }
 
 // The state that numbers make.
@@ -172,7 +181,7 @@ pub fn made(all: Numbers) -> State
     };
     let sample = sample(all);
     let phase = phase(all[PHASE]);
-    let band = band(all[BAND]);
+    let bands = bands(all);
     let flags = all[FLAGS] % 4096;
     State {
         profile,
@@ -183,7 +192,7 @@ pub fn made(all: Numbers) -> State
         watchdog,
         sample,
         phase,
-        band,
+        bands,
         flags,
     }
 }

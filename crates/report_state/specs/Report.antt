@@ -3,6 +3,7 @@ use Prim.Native.Nat.{ℕ, _*_, _/_, min}
 use mathlib.Core.Bool.{not}
 use lib.Dec.{ltb}
 use Rattle.settle_bands.specs.Effect.{shareOf}
+use Rattle.settle_bands.specs.Joined.{packBand}
 use Rattle.base.specs.Pick.{pick}
 use Rattle.base.specs.Volts.{packOf}
 use Rattle.settle_levels.specs.Voltage.{chargeVoltageOf}
@@ -49,7 +50,7 @@ inputLimitOf p s = pick (not (s .enextilim)) (s .iindpm) (pick (ltb (p .ohms) 1)
 unfoldable pub reportOf : State → Report
 reportOf s = record {
   phase = s .phase;
-  current = currentIn (s .phase) (trickleCurrent (s .profile)) (s .settings .iprechg) (fastCurrent (s .profile) (s .settings) (s .registers) (s .band));
-  voltage = pick (charging (s .phase)) (chargeVoltageOf (s .profile) (s .settings) (s .registers) (s .band)) (packOf 0);
+  current = currentIn (s .phase) (trickleCurrent (s .profile)) (s .settings .iprechg) (fastCurrent (s .profile) (s .settings) (s .registers) (packBand (s .bands)));
+  voltage = pick (charging (s .phase)) (chargeVoltageOf (s .profile) (s .settings) (s .registers) (packBand (s .bands))) (packOf 0);
   limit = inputLimitOf (s .profile) (s .settings);
 }

@@ -7,6 +7,7 @@ use crate::answer::Report;
 use base::choice;
 use base::volts;
 use settle_bands::effect;
+use settle_bands::joined;
 use settle_levels::voltage;
 use state_fields::named;
 use state_parts::band::Band;
@@ -88,8 +89,9 @@ pub fn report(state: State) -> Report
     let settings = state.settings;
     let registers = state.registers;
     let phase = state.phase;
-    let band = state.band;
+    let held = state.bands;
     let precharge = settings.iprechg;
+    let band = joined::pack_band(held);
     let fast = fast_current(profile, settings, registers, band);
     let trickle = trickle_current(profile);
     let current = current_in(phase, trickle, precharge, fast);

@@ -1,7 +1,7 @@
 -- No limit is reached in the stage that a settling comes to.
 use mathlib.Core.Path.{_≡_, refl, _∙_}
 use mathlib.Core.Bool.{Bool, true, false, _||_}
-use Rattle.settle_bands.specs.Joined.{packBandOf}
+use Rattle.settle_bands.specs.Joined.{packBand}
 use Rattle.base.specs.Pick.{pick}
 use Rattle.base.proofs.Tests.{neither}
 use Rattle.settle_levels.specs.Comparators.{latchesOf}
@@ -17,7 +17,7 @@ use Rattle.settle_permission.proofs.Cleared.{reached-cleared}
 use Rattle.settle_permission.specs.Bits.{shutdownOf}
 use Rattle.settle_permission.specs.Limits.{reachedOf}
 use Rattle.settle_all.specs.Gather.{testsOf}
-use Rattle.settle_all.specs.Settle.{forcedOf, settledOf, settleOf}
+use Rattle.settle_all.specs.Settle.{Bander, forcedOf, settledOf}
 use Rattle.settle_all.specs.Theorems.{BelowLimits}
 
 pick-same : (test b : Bool) → b ≡ false → pick test false b ≡ false
@@ -36,8 +36,8 @@ module _ (s : State) (k : Latches) (b : Band) (o : Bool) where
   unfolding cycleOf
   below e = reached-cleared (s .profile) (s .cycle) _ (clearsOf t) ∙ pick-same (clearsOf t) _ (unreached (charging-clean t e .1))
 
-pub below-limits : BelowLimits
-unfolding settleOf settledOf forcedOf
-below-limits s o =
+pub below-limits : (band : Bander) → BelowLimits band
+unfolding settledOf forcedOf
+below-limits band s o =
     let f = forcedOf s in
-    below f (latchesOf (f .profile) (f .settings) (f .registers) (f .sample) (f .latches)) (packBandOf (f .profile) (f .registers) (f .sample)) o
+    below f (latchesOf (f .profile) (f .settings) (f .registers) (f .sample) (f .latches)) (packBand (band (f .profile) (f .registers) (f .sample) (f .bands))) o

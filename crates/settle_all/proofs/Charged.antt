@@ -10,13 +10,13 @@ use Rattle.settle_phases.specs.Order.{isTaper, judgedOf, endsOf, phaseOf}
 use Rattle.settle_phases.specs.declared.tests.Tests.{Tests}
 use Rattle.settle_permission.specs.Ending.{endingOf}
 use Rattle.settle_all.specs.Gather.{testsOf}
-use Rattle.settle_all.specs.Settle.{forcedOf, settledOf, settleOf}
-use Rattle.settle_all.specs.Theorems.{testedOf, TaperEnds, Charged, ChargedStays}
+use Rattle.settle_all.specs.Settle.{Bander, forcedOf, settledOf}
+use Rattle.settle_all.specs.Theorems.{testedIn, TaperEnds, Charged, ChargedStays}
 
 -- the recharge point isn't below: EN_CHG, which a pin fault forces, is no part of the charge voltage
-above : (s : State) (observed : Bool) → Charged s → testedOf s observed .recharge ≡ false
-unfolding testsOf settleOf settledOf forcedOf chargeVoltageOf baseOf belowRecharge
-above s observed h = full-at-voltage (s .profile) (s .settings) (chargeVoltageOf (s .profile) (s .settings) (s .registers) _) (s .sample) h
+above : (band : Bander) (s : State) (observed : Bool) → Charged band s → testedIn band s observed .recharge ≡ false
+unfolding testsOf settledOf forcedOf chargeVoltageOf baseOf belowRecharge
+above band s observed h = full-at-voltage (s .profile) (s .settings) (chargeVoltageOf (s .profile) (s .settings) (s .registers) _) (s .sample) h
 
 ends : (t : Tests) → isTaper (judgedOf t) ≡ true → t .observed ≡ true → t .tapered ≡ true → t .ending ≡ true → phaseOf t ≡ Done
 unfolding phaseOf endsOf
@@ -26,10 +26,10 @@ stays : (t : Tests) → t .recharge ≡ false → t .done ≡ true → t .permit
 unfolding phaseOf endsOf judgedOf
 stays t full done permitted sound mild = rw (full, done, permitted, sound, mild)
 
-pub taper-ends : TaperEnds
-unfolding settleOf settledOf forcedOf testsOf endingOf
-taper-ends s held judged ending = ends (testedOf s true) judged refl held ending
+pub taper-ends : (band : Bander) → TaperEnds band
+unfolding settledOf forcedOf testsOf endingOf
+taper-ends band s held judged ending = ends (testedIn band s true) judged refl held ending
 
-pub charged-stays : ChargedStays
-unfolding settleOf settledOf forcedOf testsOf
-charged-stays s observed h done permitted sound mild = stays (testedOf s observed) (above s observed h) done permitted sound mild
+pub charged-stays : (band : Bander) → ChargedStays band
+unfolding settledOf forcedOf testsOf
+charged-stays band s observed h done permitted sound mild = stays (testedIn band s observed) (above band s observed h) done permitted sound mild

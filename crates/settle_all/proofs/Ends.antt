@@ -1,6 +1,8 @@
--- Settling reads the two thermistors by their joined band alone, so it doesn't matter which is which.
+-- Settling reads the two thermistors each by what is held of it, and then by their joined band alone, so it doesn't matter which is which.
 use mathlib.Core.Path.{ap}
 use Rattle.settle_bands.proofs.Joining.{either-end}
+use Rattle.settle_bands.specs.Joining.{exchangedBands}
+use Rattle.settle_bands.specs.Holding.{bandsOf}
 use Rattle.settle_levels.specs.Comparators.{shortOf, lowOf, packOverOf, latchesOf}
 use Rattle.settle_levels.specs.Voltage.{taperOf, belowRecharge}
 use Rattle.settle_permission.specs.Bits.{regulatedOf}
@@ -12,8 +14,9 @@ use Rattle.settle_all.specs.Settle.{forcedOf, settledOf, settleOf}
 use Rattle.settle_all.specs.Theorems.{otherWay, EndsAlike}
 
 pub ends-alike : EndsAlike
-unfolding settleOf settledOf forcedOf latchesOf shortOf lowOf packOverOf testsOf permittedOf endingOf regulatedOf taperOf belowRecharge
+unfolding settleOf bandsOf settledOf forcedOf latchesOf shortOf lowOf packOverOf testsOf permittedOf endingOf regulatedOf taperOf belowRecharge
 ends-alike s observed =
     let f = forcedOf s in
     let k = latchesOf (f .profile) (f .settings) (f .registers) (f .sample) (f .latches) in
-    ap (λ (b : Band). otherWay (settledOf f k b (testsOf f k b observed))) (either-end (s .profile) (s .registers) (s .sample))
+    let b = bandsOf (s .profile) (s .registers) (s .sample) (s .bands) in
+    ap (λ (j : Band). settledOf (otherWay f) k (exchangedBands b) (testsOf f k j observed)) (either-end .joined b)

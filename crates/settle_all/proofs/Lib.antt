@@ -6,3 +6,4 @@ pub mod Charged
 pub mod EndTested
 pub mod Ends
 pub mod Once
+pub mod Rules

@@ -1,10 +1,12 @@
 -- 01, "Settling, in order": one settling of the whole state.
 use mathlib.Core.Bool.{Bool, not, _&&_}
-use Rattle.settle_bands.specs.Joined.{packBandOf}
+use Rattle.settle_bands.specs.Joined.{packBand}
+use Rattle.settle_bands.specs.Holding.{bandsOf}
 use Rattle.settle_levels.specs.Clamps.{faultOf}
 use Rattle.settle_levels.specs.Comparators.{latchesOf}
 use Rattle.state_parts.specs.With.{withSettings, withEnchg}
 use Rattle.state_parts.specs.declared.band.Band.{Band}
+use Rattle.state_parts.specs.declared.band.Bands.{Bands}
 use Rattle.state_parts.specs.declared.latches.Latches.{Latches}
 use Rattle.state_parts.specs.declared.profile.Profile.{Profile}
 use Rattle.state_parts.specs.declared.registers.Registers.{Registers}
@@ -23,7 +25,7 @@ storedOf fault s = withEnchg s (s .enchg && not fault)
 unfoldable pub forcedOf : State → State
 forcedOf s = withSettings s (storedOf (faultOf (s .profile) (s .registers)) (s .settings))
 
-unfoldable pub settledOf : State → Latches → Band → Tests → State
+unfoldable pub settledOf : State → Latches → Bands → Tests → State
 settledOf s k b t = record {
   profile = s .profile;
   settings = s .settings;
@@ -33,13 +35,13 @@ settledOf s k b t = record {
   watchdog = s .watchdog;
   sample = s .sample;
   phase = phaseOf t;
-  band = b;
+  bands = b;
   flags = s .flags;
 }
 
--- pins, then EN_CHG, comparators, band, tests, and the state by them; whatever the band is judged by, and the tests
+-- pins, then EN_CHG, comparators, bands, tests, and the state by them; whatever the thermistors' bands are judged by, beside what is held, and the tests
 abbrev pub Bander : Type 0
-Bander = Profile → Registers → Sample → Band
+Bander = Profile → Registers → Sample → Bands → Bands
 
 abbrev pub Tester : Type 0
 Tester = State → Latches → Band → Bool → Tests
@@ -48,12 +50,16 @@ abbrev pub settleWith : Bander → Tester → State → Bool → State
 settleWith band tests s observed =
     let f = forcedOf s in
     let k = latchesOf (f .profile) (f .settings) (f .registers) (f .sample) (f .latches) in
-    let b = band (f .profile) (f .registers) (f .sample) in
-    settledOf f k b (tests f k b observed)
+    let b = band (f .profile) (f .registers) (f .sample) (f .bands) in
+    settledOf f k b (tests f k (packBand b) observed)
 
--- by the band of both thermistors
+-- by the tests of 01
+abbrev pub settleIn : Bander → State → Bool → State
+settleIn band s observed = settleWith band testsOf s observed
+
+-- by the bands of the pack's edition
 abbrev pub settleBy : Tester → State → Bool → State
-settleBy tests s observed = settleWith packBandOf tests s observed
+settleBy tests s observed = settleWith bandsOf tests s observed
 
 unfoldable pub settleOf : State → Bool → State
-settleOf s observed = settleBy testsOf s observed
+settleOf s observed = settleIn bandsOf s observed

@@ -2,13 +2,14 @@
 ghost use mathlib.Core.Path.{_≡_};
 ghost use Rattle.settle_all.specs.Settle.{storedOf, forcedOf, settledOf, settleOf};
 use crate::gather;
+use settle_bands::holding;
 use settle_bands::joined;
 use settle_levels::clamps;
 use settle_levels::comparators;
 use settle_phases::cycles;
 use settle_phases::order;
 use settle_phases::tests::Tests;
-use state_parts::band::Band;
+use state_parts::band::Bands;
 use state_parts::latches::Latches;
 use state_parts::settings::Settings;
 use state_parts::state::State;
@@ -37,8 +38,8 @@ fn forced(state: State) -> State
 }
 
 // The state by what was found.
-fn settled(state: State, latches: Latches, band: Band, t: Tests) -> State
-    ensures { λ r. ⌜ r ≡ settledOf state latches band t ⌝ }
+fn settled(state: State, latches: Latches, bands: Bands, t: Tests) -> State
+    ensures { λ r. ⌜ r ≡ settledOf state latches bands t ⌝ }
 {
     let profile = state.profile;
     let settings = state.settings;
@@ -58,7 +59,7 @@ fn settled(state: State, latches: Latches, band: Band, t: Tests) -> State
         watchdog: watchdog,
         sample: sample,
         phase: phase,
-        band: band,
+        bands: bands,
         flags: flags,
     }
 }
@@ -73,8 +74,10 @@ pub fn settle(state: State, observed: bool) -> State
     let registers = start.registers;
     let sample = start.sample;
     let was = start.latches;
+    let held = start.bands;
     let latches = comparators::latches(profile, settings, registers, sample, was);
-    let band = joined::pack_band(profile, registers, sample);
+    let bands = holding::bands(profile, registers, sample, held);
+    let band = joined::pack_band(bands);
     let t = gather::gather(start, latches, band, observed);
-    settled(start, latches, band, t)
+    settled(start, latches, bands, t)
 }

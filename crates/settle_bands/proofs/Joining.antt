@@ -5,9 +5,9 @@ use Rattle.state_parts.specs.declared.band.Band.{Band}
 use Rattle.state_parts.specs.declared.band.Band.the-variants as pack
 use Rattle.state_parts.specs.declared.band.TsBand.{TsBand}
 use Rattle.state_parts.specs.declared.band.TsBand.the-variants.{Normal, Cold, Cool, Warm, Hot}
-use Rattle.settle_bands.specs.Thresholds.{bandOf}
 use Rattle.settle_bands.specs.Effect.{suspendsOf}
-use Rattle.settle_bands.specs.Joined.{isBand, either, firstJoined, joinedOf, packBandOf}
+use Rattle.settle_bands.specs.Joined.{isBand, either, firstJoined, joinedOf}
+use Rattle.settle_bands.specs.Holding.{nextOf, bandsOf}
 use Rattle.settle_bands.specs.Joining.{alone, Joins, JoinsAsSaid, JoinedSuspends, EitherEnd, EqualActAsOne}
 
 swapped : (is a b : TsBand) → either is a b ≡ either is b a
@@ -75,9 +75,9 @@ unfolding suspendsOf
 joined-suspends = record { cold = λ p g. refl; hot = λ p g. refl; mixed = λ p g. refl }
 
 pub either-end : EitherEnd
-unfolding packBandOf
-either-end p g x = either-way (bandOf p g (x .secondts)) (bandOf p g (x .ts))
+unfolding bandsOf
+either-end = record { judged = λ p g x held. refl; joined = λ b. either-way (b .second) (b .first) }
 
 pub equal-act-as-one : EqualActAsOne
-unfolding packBandOf
-equal-act-as-one p g x same = ap (λ ts. joinedOf (bandOf p g (x .ts)) (bandOf p g ts)) same ∙ alike (bandOf p g (x .ts))
+unfolding bandsOf
+equal-act-as-one p g x held same = ap (λ ts. joinedOf (nextOf p g held (x .ts)) (nextOf p g held ts)) same ∙ alike (nextOf p g held (x .ts))

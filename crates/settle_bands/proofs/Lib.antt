@@ -2,3 +2,4 @@
 pub mod Shares
 pub mod Firsts
 pub mod Joining
+pub mod Held

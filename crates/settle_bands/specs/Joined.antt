@@ -5,12 +5,9 @@ use Rattle.base.specs.Pick.{pick}
 use Rattle.state_parts.specs.Numbers.{tsBandNumber}
 use Rattle.state_parts.specs.declared.band.Band.{Band}
 use Rattle.state_parts.specs.declared.band.Band.the-variants.{Normal, Cold, Cool, Warm, Hot, Mixed}
+use Rattle.state_parts.specs.declared.band.Bands.{Bands}
 use Rattle.state_parts.specs.declared.band.TsBand.{TsBand}
 use Rattle.state_parts.specs.declared.band.TsBand.the-variants as ts
-use Rattle.state_parts.specs.declared.profile.Profile.{Profile}
-use Rattle.state_parts.specs.declared.registers.Registers.{Registers}
-use Rattle.state_parts.specs.declared.sample.Sample.{Sample}
-use Rattle.settle_bands.specs.Thresholds.{bandOf}
 
 -- whether a thermistor's band is this one, and whether one of two is
 abbrev pub isBand : TsBand → TsBand → Bool
@@ -26,5 +23,6 @@ firstJoined cold hot mixed cool warm = pick cold Cold (pick hot Hot (pick mixed 
 unfoldable pub joinedOf : TsBand → TsBand → Band
 joinedOf a b = firstJoined (either ts.Cold a b) (either ts.Hot a b) (either ts.Cool a b && either ts.Warm a b) (either ts.Cool a b) (either ts.Warm a b)
 
-unfoldable pub packBandOf : Profile → Registers → Sample → Band
-packBandOf p g x = joinedOf (bandOf p g (x .ts)) (bandOf p g (x .secondts))
+-- of what is held
+abbrev pub packBand : Bands → Band
+packBand b = joinedOf (b .first) (b .second)

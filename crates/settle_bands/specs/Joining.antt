@@ -3,14 +3,15 @@ use mathlib.Core.Path.{_≡_}
 use mathlib.Core.Bool.{true, false}
 use Rattle.state_parts.specs.declared.band.Band.{Band}
 use Rattle.state_parts.specs.declared.band.Band.the-variants.{Normal, Cold, Cool, Warm, Hot, Mixed}
+use Rattle.state_parts.specs.declared.band.Bands.{Bands}
 use Rattle.state_parts.specs.declared.band.TsBand.{TsBand}
 use Rattle.state_parts.specs.declared.band.TsBand.the-variants as ts
 use Rattle.state_parts.specs.declared.profile.Profile.{Profile}
 use Rattle.state_parts.specs.declared.registers.Registers.{Registers}
 use Rattle.state_parts.specs.declared.sample.Sample.{Sample}
-use Rattle.settle_bands.specs.Thresholds.{bandOf}
 use Rattle.settle_bands.specs.Effect.{suspendsOf}
-use Rattle.settle_bands.specs.Joined.{isBand, joinedOf, packBandOf}
+use Rattle.settle_bands.specs.Joined.{isBand, joinedOf, packBand}
+use Rattle.settle_bands.specs.Holding.{nextOf, bandsOf}
 
 -- one thermistor's band as the pack's
 abbrev pub alone : TsBand → Band
@@ -44,13 +45,19 @@ pub record JoinedSuspends : Type 0 where
   pub hot : (p : Profile) (g : Registers) → suspendsOf p g Hot ≡ true
   pub mixed : (p : Profile) (g : Registers) → suspendsOf p g Mixed ≡ true
 
--- so it doesn't matter of a sample either: with the two values in each other's place the band is the same
+-- so it doesn't matter of a sample either: with the two values in each other's place, and what is held of them, so are the bands, and the pack's is the same
 abbrev pub exchanged : Sample → Sample
 exchanged x = record { stamp = x .stamp; input = x .input; pack = x .pack; ibat = x .ibat; ts = x .secondts; secondts = x .ts; bits = x .bits }
 
-abbrev pub EitherEnd : Type 0
-EitherEnd = (p : Profile) (g : Registers) (x : Sample) → packBandOf p g (exchanged x) ≡ packBandOf p g x
+abbrev pub exchangedBands : Bands → Bands
+exchangedBands b = record { first = b .second; second = b .first }
 
--- "kind 5 stands for two equal ones": then the band is that of the one value
+pub record EitherEnd : Type 0 where
+  pub judged : (p : Profile) (g : Registers) (x : Sample) (held : Bands) → bandsOf p g (exchanged x) (exchangedBands held) ≡ exchangedBands (bandsOf p g x held)
+  pub joined : (b : Bands) → packBand (exchangedBands b) ≡ packBand b
+
+-- "kind 5 stands for two equal ones": from two equal bands the pack's is then that of the one value
 abbrev pub EqualActAsOne : Type 0
-EqualActAsOne = (p : Profile) (g : Registers) (x : Sample) → x .secondts ≡ x .ts → packBandOf p g x ≡ alone (bandOf p g (x .ts))
+EqualActAsOne =
+    (p : Profile) (g : Registers) (x : Sample) (held : TsBand) → x .secondts ≡ x .ts
+    → packBand (bandsOf p g x (record { first = held; second = held })) ≡ alone (nextOf p g held (x .ts))

@@ -11,6 +11,7 @@ use Rattle.state_parts.specs.declared.band.TsBand.{TsBand}
 use Rattle.state_parts.specs.declared.band.TsBand.the-variants.{Normal, Cold, Cool, Warm, Hot}
 use Rattle.state_parts.specs.declared.profile.Profile.{Profile}
 use Rattle.state_parts.specs.declared.registers.Registers.{Registers}
+use Rattle.settle_bands.specs.declared.thresholds.Marks.{Marks}
 
 -- 000, table 6-31, in thousandths of a percent, by code
 abbrev pub th1At : Profile → ℕ → ℕ
@@ -48,5 +49,13 @@ jeitaOn g = eqb (fieldOf enJeita g) 1
 abbrev pub firstBand : Bool → Bool → Bool → Bool → Bool → TsBand
 firstBand off cold hot cool warm = pick off Normal (pick cold Cold (pick hot Hot (pick cool Cool (pick warm Warm Normal))))
 
+unfoldable pub bandBy : Marks → ℕ → TsBand
+bandBy m ts = firstBand (m .off) (leb (m .th1) ts) (leb ts (m .th5)) (m .jeita && leb (m .th2) ts) (m .jeita && leb ts (m .th3))
+
+-- all that the registers say of it
+unfoldable pub marksOf : Profile → Registers → Marks
+marksOf p g = record { off = tsOff g; jeita = jeitaOn g; th1 = th1Of p g; th2 = th2Of p g; th3 = th3Of p g; th5 = th5Of p g }
+
+-- so the band of a TS value by the first edition, or where nothing is held
 unfoldable pub bandOf : Profile → Registers → ℕ → TsBand
-bandOf p g ts = firstBand (tsOff g) (leb (th1Of p g) ts) (leb ts (th5Of p g)) (jeitaOn g && leb (th2Of p g) ts) (jeitaOn g && leb ts (th3Of p g))
+bandOf p g ts = bandBy (marksOf p g) ts

@@ -1,22 +1,27 @@
 // The pack's band: what the bands of its two thermistors come to.
 ghost use mathlib.Core.Path.{_≡_};
-ghost use Rattle.settle_bands.specs.Joined.{either, firstJoined, joinedOf, packBandOf};
-use crate::thresholds;
+ghost use Rattle.settle_bands.specs.Joined.{isBand, either, firstJoined, joinedOf, packBand};
 use state_parts::band;
 use state_parts::band::Band;
+use state_parts::band::Bands;
 use state_parts::band::TsBand;
-use state_parts::profile::Profile;
-use state_parts::registers::Registers;
-use state_parts::sample::Sample;
+
+// Whether a thermistor's band is this one.
+pub(crate) fn is_band(is: TsBand, of: TsBand) -> bool
+    ensures { λ r. ⌜ r ≡ isBand is of ⌝ }
+{
+    let wanted = band::ts_number(is);
+    let number = band::ts_number(of);
+    number == wanted
+}
 
 // Whether one of two bands is this one.
 fn either(is: TsBand, first: TsBand, second: TsBand) -> bool
     ensures { λ r. ⌜ r ≡ either is first second ⌝ }
 {
-    let wanted = band::ts_number(is);
-    let a = band::ts_number(first);
-    let b = band::ts_number(second);
-    (a == wanted) | (b == wanted)
+    let a = is_band(is, first);
+    let b = is_band(is, second);
+    a | b
 }
 
 // The judged order, by what either thermistor is.
@@ -49,13 +54,11 @@ pub fn joined(first: TsBand, second: TsBand) -> Band
     first_joined(cold, hot, cool & warm, cool, warm)
 }
 
-// The band of a sample's two TS values.
-pub fn pack_band(profile: Profile, registers: Registers, sample: Sample) -> Band
-    ensures { λ r. ⌜ r ≡ packBandOf profile registers sample ⌝ }
+// The pack's band, by what each of its thermistors is in.
+pub fn pack_band(bands: Bands) -> Band
+    ensures { λ r. ⌜ r ≡ packBand bands ⌝ }
 {
-    let ts = sample.ts;
-    let other = sample.secondts;
-    let first = thresholds::band_at(profile, registers, ts);
-    let second = thresholds::band_at(profile, registers, other);
+    let first = bands.first;
+    let second = bands.second;
     joined(first, second)
 }

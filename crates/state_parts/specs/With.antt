@@ -1,15 +1,31 @@
--- A state, settings or registers with one part changed, and every other as it was.
+-- A state, profile, settings or registers with one part changed, and every other as it was.
 use Prim.Native.Nat.{ℕ}
 use mathlib.Core.Bool.{Bool}
 use Rattle.base.specs.declared.units.PackMv.{PackMv}
+use Rattle.state_parts.specs.declared.band.Bands.{Bands}
 use Rattle.state_parts.specs.declared.cycle.Cycle.{Cycle}
 use Rattle.state_parts.specs.declared.latches.Latches.{Latches}
+use Rattle.state_parts.specs.declared.profile.Profile.{Profile}
 use Rattle.state_parts.specs.declared.registers.Registers.{Registers}
 use Rattle.state_parts.specs.declared.sample.Sample.{Sample}
 use Rattle.state_parts.specs.declared.settings.Settings.{Settings}
 use Rattle.state_parts.specs.declared.state.State.{State}
 use Rattle.state_parts.specs.declared.watchdog.Watchdog.{Watchdog}
 use Rattle.state_parts.specs.declared.words.Words.{Words}
+
+abbrev pub withProfile : State → Profile → State
+withProfile s p = record {
+  profile = p;
+  settings = s .settings;
+  registers = s .registers;
+  latches = s .latches;
+  cycle = s .cycle;
+  watchdog = s .watchdog;
+  sample = s .sample;
+  phase = s .phase;
+  bands = s .bands;
+  flags = s .flags;
+}
 
 abbrev pub withSettings : State → Settings → State
 withSettings s t = record {
@@ -21,7 +37,7 @@ withSettings s t = record {
   watchdog = s .watchdog;
   sample = s .sample;
   phase = s .phase;
-  band = s .band;
+  bands = s .bands;
   flags = s .flags;
 }
 
@@ -35,7 +51,7 @@ withRegisters s g = record {
   watchdog = s .watchdog;
   sample = s .sample;
   phase = s .phase;
-  band = s .band;
+  bands = s .bands;
   flags = s .flags;
 }
 
@@ -49,7 +65,7 @@ withLatches s k = record {
   watchdog = s .watchdog;
   sample = s .sample;
   phase = s .phase;
-  band = s .band;
+  bands = s .bands;
   flags = s .flags;
 }
 
@@ -63,7 +79,7 @@ withCycle s c = record {
   watchdog = s .watchdog;
   sample = s .sample;
   phase = s .phase;
-  band = s .band;
+  bands = s .bands;
   flags = s .flags;
 }
 
@@ -77,7 +93,7 @@ withWatchdog s w = record {
   watchdog = w;
   sample = s .sample;
   phase = s .phase;
-  band = s .band;
+  bands = s .bands;
   flags = s .flags;
 }
 
@@ -91,7 +107,21 @@ withSample s x = record {
   watchdog = s .watchdog;
   sample = x;
   phase = s .phase;
-  band = s .band;
+  bands = s .bands;
+  flags = s .flags;
+}
+
+abbrev pub withBands : State → Bands → State
+withBands s b = record {
+  profile = s .profile;
+  settings = s .settings;
+  registers = s .registers;
+  latches = s .latches;
+  cycle = s .cycle;
+  watchdog = s .watchdog;
+  sample = s .sample;
+  phase = s .phase;
+  bands = b;
   flags = s .flags;
 }
 
@@ -105,7 +135,7 @@ withFlags s f = record {
   watchdog = s .watchdog;
   sample = s .sample;
   phase = s .phase;
-  band = s .band;
+  bands = s .bands;
   flags = f;
 }
 
@@ -144,6 +174,21 @@ withVolts t vreg vsysmin = record {
   enextilim = t .enextilim;
   disstat = t .disstat;
   masks = t .masks;
+}
+
+abbrev pub withEdition : Profile → ℕ → Profile
+withEdition p edition = record {
+  cell = p .cell;
+  vchg = p .vchg;
+  ichg = p .ichg;
+  ohms = p .ohms;
+  stamp = p .stamp;
+  ceiling = p .ceiling;
+  trickle = p .trickle;
+  precharge = p .precharge;
+  fast = p .fast;
+  watchdog = p .watchdog;
+  edition = edition;
 }
 
 abbrev pub withCells : Registers → ℕ → Registers

@@ -11,6 +11,12 @@ pub enum TsBand {
     Hot,
 }
 
+// What each of a pack's two thermistors is in.
+pub struct Bands {
+    pub first: TsBand,
+    pub second: TsBand,
+}
+
 // What the two thermistors of a pack come to; one cool beside one warm is a band of its own.
 pub enum Band {
     Normal,

@@ -18,6 +18,7 @@ coded cell vchg ichg = record {
   precharge = 0;
   fast = 0;
   watchdog = 0;
+  edition = 1;
 }
 
 -- "vchg 3, cells 5 to 4 gives VREG 16,000, VSYSMIN 12,400"

@@ -10,7 +10,8 @@ use Rattle.base.specs.declared.units.PackMv.{PackMv}
 use Rattle.state_fields.specs.Held.{startWords}
 use Rattle.state_parts.specs.Edges.{noFlags}
 use Rattle.state_parts.specs.Pins.{vchgOf, ichgOf}
-use Rattle.state_parts.specs.declared.band.Band.the-variants.{Normal}
+use Rattle.state_parts.specs.declared.band.Bands.{Bands}
+use Rattle.state_parts.specs.declared.band.TsBand.the-variants.{Normal}
 use Rattle.state_parts.specs.declared.cycle.Cycle.{Cycle}
 use Rattle.state_parts.specs.declared.latches.Latches.{Latches}
 use Rattle.state_parts.specs.declared.phase.Phase.the-variants.{Idle}
@@ -72,6 +73,10 @@ startWatchdog = record { count = 0 }
 abbrev pub startLatches : Latches
 startLatches = record { inputok = false; inputover = false; short = true; low = true; packover = false }
 
+-- a band other than normal is entered by a judgement: both thermistors start with normal
+abbrev pub startBands : Bands
+startBands = record { first = Normal; second = Normal }
+
 -- what a power-on begins with, before it settles
 unfoldable pub startState : Profile → State
 startState p = record {
@@ -83,6 +88,6 @@ startState p = record {
   watchdog = startWatchdog;
   sample = startSample p;
   phase = Idle;
-  band = Normal;
+  bands = startBands;
   flags = noFlags;
 }

@@ -1,7 +1,7 @@
 // What a power-on begins with, and a register reset returns to.
 ghost use mathlib.Core.Path.{_≡_};
 ghost use Rattle.state_start.specs.Values.{startVreg, startIchg, startVsysmin, startSettings, startRegisters};
-ghost use Rattle.state_start.specs.Values.{startSample, startCycle, startWatchdog, startLatches, startState};
+ghost use Rattle.state_start.specs.Values.{startSample, startCycle, startWatchdog, startLatches, startBands, startState};
 use base::choice;
 use base::units::CellMv;
 use base::units::PackMv;
@@ -9,7 +9,8 @@ use base::units::in_pack;
 use base::volts::either;
 use base::volts::pack;
 use state_fields::holding::start_words;
-use state_parts::band::Band;
+use state_parts::band::Bands;
+use state_parts::band::TsBand;
 use state_parts::cycle::Cycle;
 use state_parts::latches::Latches;
 use state_parts::phase::Phase;
@@ -135,6 +136,16 @@ pub fn start_latches() -> Latches
     }
 }
 
+// The bands at power-on.
+pub fn start_bands() -> Bands
+    ensures { λ r. ⌜ r ≡ startBands ⌝ }
+{
+    Bands {
+        first: TsBand::Normal,
+        second: TsBand::Normal,
+    }
+}
+
 // What a power-on begins with, before it settles.
 pub fn start(p: Profile) -> State
     ensures { λ r. ⌜ r ≡ startState p ⌝ }
@@ -145,6 +156,7 @@ pub fn start(p: Profile) -> State
     let cycle = start_cycle();
     let watchdog = start_watchdog();
     let sample = start_sample(p);
+    let bands = start_bands();
     State {
         profile: p,
         settings: settings,
@@ -154,7 +166,7 @@ pub fn start(p: Profile) -> State
         watchdog: watchdog,
         sample: sample,
         phase: Phase::Idle,
-        band: Band::Normal,
+        bands: bands,
         flags: 0,
     }
 }

@@ -32,6 +32,8 @@ pub record ProfileBounds (p : Profile) : Type 0 where
   pub precharge : p .precharge ≤ 172800
   pub fast : p .fast ≤ 172800
   pub watchdog : p .watchdog ≤ 172800
+  pub editionLeast : 1 ≤ p .edition
+  pub edition : p .edition ≤ 2
 
 pub profile-bounds : (p : Profile) → profileOk p ≡ true → ProfileBounds p
 unfolding profileOk
@@ -48,6 +50,8 @@ profile-bounds p e =
       precharge = omega arith;
       fast = omega arith;
       watchdog = omega arith;
+      editionLeast = omega arith;
+      edition = omega arith;
     }
 
 pub record SampleBounds (x : Sample) : Type 0 where

@@ -19,11 +19,13 @@ use Rattle.state_parts.specs.declared.state.State.{State}
 use Rattle.state_parts.specs.declared.watchdog.Watchdog.{Watchdog}
 use Rattle.state_settings.specs.Kept.{settingsOk}
 
--- "1 power-on | cell, vchg, ichg codes 0-7; ILIM ohms 0-33,000; stamp; cell ceiling 4,350-4,714; trickle, precharge, fast limits and watchdog period in seconds, 0-172,800"
+-- "1 power-on | cell, vchg, ichg codes 0-7; ILIM ohms 0-33,000; stamp; cell ceiling 4,350-4,714; trickle, precharge, fast limits and watchdog period in seconds, 0-172,800"; 02, R-8: "an
+-- edition number 1 or 2"
 unfoldable pub profileOk : Profile → Bool
 profileOk p =
     leb (p .cell) 7 && leb (p .vchg) 7 && leb (p .ichg) 7 && leb (p .ohms) 33000 && leb 4350 (p .ceiling) && leb (p .ceiling) 4714
     && leb (p .trickle) 172800 && leb (p .precharge) 172800 && leb (p .fast) 172800 && leb (p .watchdog) 172800
+    && leb 1 (p .edition) && leb (p .edition) 2
 
 -- "5 observe | stamp; VIN, VBAT 0-45,000; IBAT -10,000 to 5,000; TS 0-100,000; bits 0-63"; 02, R-7: "The sample gets a second TS value"
 unfoldable pub sampleOk : Sample → Bool

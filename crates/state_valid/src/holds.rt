@@ -29,6 +29,8 @@ pub fn profile_ok(p: Profile) -> bool
         & (p.precharge <= 172800)
         & (p.fast <= 172800)
         & (p.watchdog <= 172800)
+        & (1 <= p.edition)
+        & (p.edition <= 2)
 }
 
 // An observation's numbers in their ranges.

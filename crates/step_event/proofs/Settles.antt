@@ -28,9 +28,9 @@ use Rattle.state_valid.proofs.Bounds.{stage-below, stages-apart, stages-whole}
 use Rattle.state_valid.proofs.Wholes.{apart, whole}
 use Rattle.settle_levels.specs.Clamps.{faultOf}
 use Rattle.settle_all.specs.Settle.{storedOf, settleOf}
-use Rattle.settle_all.specs.Theorems.{testedOf}
-use Rattle.settle_all.proofs.Alone.{settles-alone, settles-to}
-use Rattle.settle_all.proofs.Below.{below-limits}
+use Rattle.settle_bands.specs.Holding.{bandsOf}
+use Rattle.settle_all.specs.Theorems.{testedIn, PhaseRules}
+use Rattle.settle_all.proofs.Rules.{phase-rules}
 
 -- a state before it settles: as one that holds what it may, but a stage may have passed its limit, as in idle
 pub record Ready (s : State) : Type 0 where
@@ -139,16 +139,18 @@ module _ (y : Cycle) (p : Profile) (loosely : cycleOk y p Idle ≡ true) where
   tight Fault h = loosely
 
 pub settled-passes : (s : State) (observed : Bool) → Ready s → stateOk (settleOf s observed) ≡ true
+unfolding settleOf
 settled-passes s observed k =
     let after = settleOf s observed in
-    let u = settles-alone s observed in
+    let rules : PhaseRules bandsOf = phase-rules bandsOf in
+    let u = rules .alone s observed in
     let cycled : cycleOk (after .cycle) (s .profile) Idle ≡ true =
-    ap (λ (y : Cycle). cycleOk y (s .profile) Idle) (settles-to s observed .cycle) ∙ kept (testedOf s observed) (s .cycle) (s .profile) (k .cycle) in
+    ap (λ (y : Cycle). cycleOk y (s .profile) Idle) (rules .moved s observed .cycle) ∙ kept (testedIn bandsOf s observed) (s .cycle) (s .profile) (k .cycle) in
     whole after (record {
       profile = ap profileOk (u .profile) ∙ k .profile;
       settings = (λ i. settingsOk (u .profile i) (u .settings i)) ∙ stored-passes (s .profile) (faultOf (s .profile) (s .registers)) (s .settings) (k .settings);
       registers = (λ i. registersOk (u .profile i) (u .registers i)) ∙ k .registers;
-      cycle = ap (λ (p : Profile). cycleOk (after .cycle) p (after .phase)) (u .profile) ∙ tight (after .cycle) (s .profile) cycled (after .phase) (below-limits s observed);
+      cycle = ap (λ (p : Profile). cycleOk (after .cycle) p (after .phase)) (u .profile) ∙ tight (after .cycle) (s .profile) cycled (after .phase) (rules .below s observed);
       watchdog = simp (u .watchdog, u .profile) (k .watchdog);
       sample = ap sampleOk (u .sample) ∙ k .sample;
       flags = ap (λ f. leb f allFlags) (u .flags) ∙ k .flags;

@@ -4,6 +4,7 @@ use lib.Dec.{eqb}
 use Rattle.state_parts.specs.Numbers.{phaseNumber, bandNumber}
 use Rattle.state_parts.specs.declared.flags.Edges.{Edges}
 use Rattle.state_parts.specs.declared.state.State.{State}
+use Rattle.settle_bands.specs.Joined.{packBand}
 use Rattle.settle_levels.specs.Comparators.{goodOf}
 use Rattle.settle_permission.specs.Bits.{iindpmOf, vindpmOf, thermalOf, shutdownOf}
 use Rattle.settle_permission.specs.Limits.{reachedOf}
@@ -19,7 +20,7 @@ seenOf s = record {
   thermal = thermalOf (s .sample);
   expired = expiredOf (s .profile) (s .watchdog);
   phase = phaseNumber (s .phase);
-  band = bandNumber (s .band);
+  band = bandNumber (packBand (s .bands));
   inputover = s .latches .inputover;
   shutdown = shutdownOf (s .sample);
   packover = s .latches .packover;

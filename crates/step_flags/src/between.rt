@@ -2,6 +2,7 @@
 ghost use mathlib.Core.Path.{_≡_};
 ghost use Rattle.step_flags.specs.Edges.{seenOf, edgesOf};
 use crate::expiry;
+use settle_bands::joined;
 use settle_levels::comparators;
 use settle_permission::bits;
 use settle_permission::limits;
@@ -32,7 +33,7 @@ pub fn seen_in(s: State) -> Seen
     let sample = s.sample;
     let latches = s.latches;
     let at = s.phase;
-    let held = s.band;
+    let held = s.bands;
     let good = comparators::input_good(latches);
     let iindpm = bits::iindpm(sample);
     let vindpm = bits::vindpm(sample);
@@ -41,7 +42,8 @@ pub fn seen_in(s: State) -> Seen
     let expired = expiry::expired(profile, s.watchdog);
     let limit = limits::any_reached(profile, s.cycle);
     let phase = phase::number(at);
-    let band = band::number(held);
+    let pack = joined::pack_band(held);
+    let band = band::number(pack);
     Seen {
         good,
         iindpm,

@@ -12,10 +12,10 @@ use Rattle.log_event.specs.declared.spelled.SpelledSample.{SpelledSample}
 use Rattle.state_parts.specs.declared.profile.Profile.{Profile}
 use Rattle.step_pins.specs.Codes.{codeOf}
 use Rattle.step_pins.proofs.Pins.{pin-table}
-use Rattle.step_turns.specs.Ranges.{profileInRange, twoInRange, resistorsInRange}
+use Rattle.step_turns.specs.Ranges.{editionInRange, twoInRange, resistorsInRange}
 use Rattle.step_turns.specs.Coded.{codedOf}
-use Rattle.step_turns.specs.Turns.{heldProfile, heldSample, opensWith, secondOfOne, observesWith, turnOf}
-use Rattle.step_turns.specs.Begins.{StandsFor, in-span, in-none, byCodes, byResistors, Begins, coded, soldered}
+use Rattle.step_turns.specs.Turns.{heldProfile, heldSample, opensWith, firstEdition, secondOfOne, observesWith, turnOf}
+use Rattle.step_turns.specs.Begins.{StandsFor, in-span, in-none, byCodes, byResistors, Begins, coded, edited, soldered}
 use Rattle.step_turns.specs.Promises.{SaysOneProfile, BeginsAsSaid}
 use Rattle.step_turns.specs.declared.later.Later.the-variants.{Observe}
 use Rattle.step_turns.specs.declared.turn.Turn.{Turn}
@@ -34,30 +34,33 @@ stands-for {ohms} (in-span i w) = pin-table .code i ohms .1 w
 stands-for {ohms} (in-none out) = pin-table .none ohms .1 out
 
 -- ---- the profile that is said
-by-its-resistors : (r : SpelledResistors) → Begins (event.PowerOnResistors r) (heldProfile (codedOf r))
-by-its-resistors r = soldered (heldProfile (codedOf r)) (r .cell) (r .vchg) (r .ichg) (stands (r .cell)) (stands (r .vchg)) (stands (r .ichg))
+by-its-resistors : (r : SpelledResistors) → Begins (event.PowerOnResistors r) (heldProfile (codedOf r) firstEdition)
+by-its-resistors r = soldered (heldProfile (codedOf r) firstEdition) (r .cell) (r .vchg) (r .ichg) refl (stands (r .cell)) (stands (r .vchg)) (stands (r .ichg))
 
 abbrev saidOr : Profile → Event → Profile
-saidOr other (event.PowerOn q) = heldProfile q
+saidOr other (event.PowerOn q) = heldProfile q firstEdition
+saidOr other (event.PowerOnEdition v) = heldProfile (v .profile) (v .edition)
 saidOr other (event.Set number value) = other
 saidOr other (event.Write address byte) = other
 saidOr other event.TakeFlags = other
 saidOr other (event.Observe x) = other
 saidOr other event.Service = other
 saidOr other event.Reset = other
-saidOr other (event.PowerOnResistors r) = heldProfile (codedOf r)
+saidOr other (event.PowerOnResistors r) = heldProfile (codedOf r) firstEdition
 saidOr other (event.ObserveTwo t) = other
 saidOr other (event.WriteRun address raw) = other
 saidOr other (event.ReadFlags address) = other
 
 is-said : (other : Profile) (e : Event) (p : Profile) → Begins e p → saidOr other e ≡ p
-is-said other _ _ (coded p) = refl
-is-said other _ _ (soldered p cell vchg ichg a b c) = simp (stands-for a, stands-for b, stands-for c)
+is-said other _ _ (coded p first) = ap (heldProfile (byCodes p)) (sym first)
+is-said other _ _ (edited p) = refl
+is-said other _ _ (soldered p cell vchg ichg first a b c) = simp (stands-for a, stands-for b, stands-for c) (ap (heldProfile (byCodes p)) (sym first))
 
 pub says-one-profile : SaysOneProfile
 says-one-profile = record {
-  codes = λ q. (heldProfile q, coded (heldProfile q));
-  resistors = λ r. (heldProfile (codedOf r), by-its-resistors r);
+  codes = λ q. (heldProfile q firstEdition, coded (heldProfile q firstEdition) refl);
+  resistors = λ r. (heldProfile (codedOf r) firstEdition, by-its-resistors r);
+  edition = λ v. (heldProfile (v .profile) (v .edition), edited (heldProfile (v .profile) (v .edition)));
   one = λ e p q b c. sym (is-said p e p b) ∙ is-said p e q c;
 }
 
@@ -71,11 +74,12 @@ by-test false t p h = inr refl
 
 opens : (e : Event) (p : Profile) → Begins e p → OpensAs (turnOf e) p
 unfolding turnOf
-opens _ _ (coded p) = by-test (profileInRange (byCodes p)) (Opens p) p (inl refl)
-opens _ _ (soldered p cell vchg ichg a b c) =
+opens _ _ (coded p first) = by-test (editionInRange (byCodes p) firstEdition) (Opens (heldProfile (byCodes p) firstEdition)) p (inl (ap (λ n. Opens (heldProfile (byCodes p) n)) (sym first)))
+opens _ _ (edited p) = by-test (editionInRange (byCodes p) (p .edition)) (Opens p) p (inl refl)
+opens _ _ (soldered p cell vchg ichg first a b c) =
     let r = byResistors cell vchg ichg p in
-    let is : Opens (heldProfile (codedOf r)) ≡ Opens p = ap Opens (is-said p (event.PowerOnResistors r) p (soldered p cell vchg ichg a b c)) in
-    by-test (resistorsInRange r) (opensWith (codedOf r)) p (by-test (profileInRange (codedOf r)) (Opens (heldProfile (codedOf r))) p (inl is))
+    let is : Opens (heldProfile (codedOf r) firstEdition) ≡ Opens p = ap Opens (is-said p (event.PowerOnResistors r) p (soldered p cell vchg ichg first a b c)) in
+    by-test (resistorsInRange r) (opensWith (codedOf r) firstEdition) p (by-test (editionInRange (codedOf r) firstEdition) (Opens (heldProfile (codedOf r) firstEdition)) p (inl is))
 
 -- ---- no other event opens a run
 abbrev opened : Profile → Turn → Profile
@@ -109,7 +113,8 @@ observed {A} x second p e = either (twoInRange x second) e
 
 said : (e : Event) (p : Profile) → turnOf e ≡ Opens p → Begins e p
 unfolding turnOf
-said (event.PowerOn q) p e = same (event.PowerOn q) (heldProfile q) p (coded (heldProfile q)) e
+said (event.PowerOn q) p e = same (event.PowerOn q) (heldProfile q firstEdition) p (coded (heldProfile q firstEdition) refl) e
+said (event.PowerOnEdition v) p e = same (event.PowerOnEdition v) (heldProfile (v .profile) (v .edition)) p (edited (heldProfile (v .profile) (v .edition))) e
 said (event.Set number value) p e = closed _ p refl e
 said (event.Write address byte) p e = closed _ p refl e
 said event.TakeFlags p e = closed _ p refl e
@@ -120,7 +125,7 @@ said event.Reset p e = closed _ p refl e
 said (event.WriteRun address raw) p e = closed _ p refl e
 said (event.ReadFlags address) p e = closed _ p refl e
 said (event.PowerOnResistors r) p e =
-    same (event.PowerOnResistors r) (heldProfile (codedOf r)) p (by-its-resistors r) e
+    same (event.PowerOnResistors r) (heldProfile (codedOf r) firstEdition) p (by-its-resistors r) e
 
 pub begins-as-said : BeginsAsSaid
 begins-as-said = record { opens = opens; said = said }

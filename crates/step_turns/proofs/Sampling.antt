@@ -11,9 +11,9 @@ use Rattle.log_event.specs.declared.spelled.SpelledProfile.{SpelledProfile}
 use Rattle.log_event.specs.declared.spelled.SpelledSample.{SpelledSample}
 use Rattle.log_event.specs.declared.spelled.SpelledTwo.{SpelledTwo}
 use Rattle.state_parts.specs.declared.sample.Sample.{Sample}
-use Rattle.step_turns.specs.Ranges.{profileInRange, twoInRange, resistorsInRange}
+use Rattle.step_turns.specs.Ranges.{editionInRange, twoInRange, resistorsInRange}
 use Rattle.step_turns.specs.Coded.{codedOf}
-use Rattle.step_turns.specs.Turns.{heldProfile, heldSample, opensWith, secondOfOne, turnOf}
+use Rattle.step_turns.specs.Turns.{heldProfile, heldSample, opensWith, firstEdition, secondOfOne, turnOf}
 use Rattle.step_turns.specs.Sampled.{bySample, SaysSample, one-value, two-values}
 use Rattle.step_turns.specs.Promises.{SaysOneSample, ObservesAsSaid}
 use Rattle.step_turns.specs.declared.later.Later.{Later}
@@ -37,6 +37,7 @@ saidOr other (event.Observe x) = heldSample x (secondOfOne x)
 saidOr other event.Service = other
 saidOr other event.Reset = other
 saidOr other (event.PowerOnResistors r) = other
+saidOr other (event.PowerOnEdition v) = other
 saidOr other (event.ObserveTwo t) = heldSample (t .sample) (t .second)
 saidOr other (event.WriteRun address raw) = other
 saidOr other (event.ReadFlags address) = other
@@ -105,8 +106,8 @@ within : (b : Bool) (t : Turn) → observes t ≡ 0 → observes (pick b t Opens
 within true t z = z
 within false t z = refl
 
-opens : (p : SpelledProfile) → observes (opensWith p) ≡ 0
-opens p = within (profileInRange p) (Opens (heldProfile p)) refl
+opens : (p : SpelledProfile) (edition : ℕ) → observes (opensWith p edition) ≡ 0
+opens p edition = within (editionInRange p edition) (Opens (heldProfile p edition)) refl
 
 same : (e : Event) (x y : Sample) → SaysSample e x → turnOf e ≡ Follows (Observe y) → SaysSample e y
 same e x y b o = by (follows e x b)
@@ -117,14 +118,15 @@ same e x y b o = by (follows e x b)
 
 said : (e : Event) (x : Sample) → turnOf e ≡ Follows (Observe x) → SaysSample e x
 unfolding turnOf
-said (event.PowerOn p) x e = none (opensWith p) x (opens p) e
+said (event.PowerOn p) x e = none (opensWith p firstEdition) x (opens p firstEdition) e
+said (event.PowerOnEdition v) x e = none (opensWith (v .profile) (v .edition)) x (opens (v .profile) (v .edition)) e
 said (event.Set number value) x e = none _ x refl e
 said (event.Write address byte) x e = none _ x refl e
 said event.TakeFlags x e = none _ x refl e
 said (event.Observe s) x e = same (event.Observe s) (heldSample s (secondOfOne s)) x (by-one s) e
 said event.Service x e = none _ x refl e
 said event.Reset x e = none _ x refl e
-said (event.PowerOnResistors r) x e = none _ x (within (resistorsInRange r) (opensWith (codedOf r)) (opens (codedOf r))) e
+said (event.PowerOnResistors r) x e = none _ x (within (resistorsInRange r) (opensWith (codedOf r) firstEdition) (opens (codedOf r) firstEdition)) e
 said (event.ObserveTwo t) x e = same (event.ObserveTwo t) (heldSample (t .sample) (t .second)) x (by-two t) e
 said (event.WriteRun address raw) x e = none _ x refl e
 said (event.ReadFlags address) x e = none _ x refl e

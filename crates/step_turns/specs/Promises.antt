@@ -4,7 +4,8 @@ use mathlib.Core.Bool.{Bool, true}
 use mathlib.Core.Logic.{_⊎_}
 use Rattle.log_event.specs.declared.Event.{Event}
 use Rattle.log_event.specs.declared.Event.the-variants as event
-use Rattle.log_event.specs.declared.Event.the-variants.{PowerOn, PowerOnResistors}
+use Rattle.log_event.specs.declared.Event.the-variants.{PowerOn, PowerOnResistors, PowerOnEdition}
+use Rattle.log_event.specs.declared.spelled.SpelledEdition.{SpelledEdition}
 use Rattle.log_event.specs.declared.spelled.SpelledProfile.{SpelledProfile}
 use Rattle.log_event.specs.declared.spelled.SpelledResistors.{SpelledResistors}
 use Rattle.log_event.specs.declared.spelled.SpelledSample.{SpelledSample}
@@ -49,10 +50,15 @@ EveryTurnFits = (e : Event) → TurnFits (turnOf e)
 abbrev pub EqualSayFive : Type 0
 EqualSayFive = (x : SpelledSample) → turnOf (event.ObserveTwo (record { sample = x; second = x .ts })) ≡ turnOf (event.Observe x)
 
+-- 02, R-8: "Kinds 1 and 9 mean the first": kind 11 with edition 1 does what kind 1 does
+abbrev pub FirstSaysOne : Type 0
+FirstSaysOne = (p : SpelledProfile) → turnOf (PowerOnEdition (record { profile = p; edition = 1 })) ≡ turnOf (PowerOn p)
+
 -- each power-on says a profile, in its ranges or not, and no event says two
 pub record SaysOneProfile : Type 0 where
   pub codes : (q : SpelledProfile) → (p : Profile) × Begins (PowerOn q) p
   pub resistors : (r : SpelledResistors) → (p : Profile) × Begins (PowerOnResistors r) p
+  pub edition : (v : SpelledEdition) → (p : Profile) × Begins (PowerOnEdition v) p
   pub one : (e : Event) (p q : Profile) → Begins e p → Begins e q → p ≡ q
 
 -- an event that says a profile opens a run with it, or a number of it is outside its range; and no other event opens one

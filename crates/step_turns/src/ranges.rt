@@ -1,6 +1,6 @@
-// The ranges of kind 1's and kind 5's numbers, of the three that kind 9 has for codes, and of the one that kind 10 has more than kind 5.
+// The ranges of kind 1's and kind 5's numbers, of the three that kind 9 has for codes, of the one that kind 10 has more than kind 5, and of the one that kind 11 has more than kind 1.
 ghost use mathlib.Core.Path.{_≡_};
-ghost use Rattle.step_turns.specs.Ranges.{profileInRange, sampleInRange, twoInRange, resistorsInRange};
+ghost use Rattle.step_turns.specs.Ranges.{profileInRange, editionInRange, sampleInRange, twoInRange, resistorsInRange};
 use log_event::spelled::SpelledProfile;
 use log_event::spelled::SpelledResistors;
 use log_event::spelled::SpelledSample;
@@ -19,6 +19,14 @@ pub fn profile_in_range(p: SpelledProfile) -> bool
         & (p.precharge <= 172800)
         & (p.fast <= 172800)
         & (p.watchdog <= 172800)
+}
+
+// The same, with the edition.
+pub fn edition_in_range(p: SpelledProfile, edition: u32) -> bool
+    ensures { λ r. ⌜ r ≡ editionInRange p edition ⌝ }
+{
+    let others = profile_in_range(p);
+    others & (1 <= edition) & (edition <= 2)
 }
 
 // An observation's numbers in their ranges.

@@ -18,9 +18,12 @@ pub enum Turn {
     FollowsOutside,
 }
 
-// The profile that is held of a power-on.
-fn held_profile(p: SpelledProfile) -> Profile
-    ensures { λ r. ⌜ r ≡ heldProfile p ⌝ }
+// The edition of the pack's sheet that kinds 1 and 9 mean.
+const FIRST_EDITION: u32 = 1;
+
+// The profile that is held of a power-on, with the edition.
+fn held_profile(p: SpelledProfile, edition: u32) -> Profile
+    ensures { λ r. ⌜ r ≡ heldProfile p edition ⌝ }
 {
     Profile {
         cell: p.cell,
@@ -33,6 +36,7 @@ fn held_profile(p: SpelledProfile) -> Profile
         precharge: p.precharge,
         fast: p.fast,
         watchdog: p.watchdog,
+        edition,
     }
 }
 
@@ -52,11 +56,11 @@ fn held_sample(x: SpelledSample, second: u32) -> Sample
 }
 
 // What a power-on with these numbers does.
-fn opens_with(p: SpelledProfile) -> Turn
-    ensures { λ r. ⌜ r ≡ opensWith p ⌝ }
+fn opens_with(p: SpelledProfile, edition: u32) -> Turn
+    ensures { λ r. ⌜ r ≡ opensWith p edition ⌝ }
 {
-    if ranges::profile_in_range(p) {
-        Turn::Opens(held_profile(p))
+    if ranges::edition_in_range(p, edition) {
+        Turn::Opens(held_profile(p, edition))
     } else {
         Turn::OpensOutside
     }
@@ -78,7 +82,7 @@ pub fn turn_of(e: Event) -> Turn
     ensures { λ r. ⌜ r ≡ turnOf e ⌝ }
 {
     match e {
-        Event::PowerOn(p) => opens_with(p),
+        Event::PowerOn(p) => opens_with(p, FIRST_EDITION),
         Event::Set(number, value) => Turn::Follows(Later::Set(number, value)),
         Event::Write(address, byte) => Turn::Follows(Later::Write(address, byte)),
         Event::TakeFlags => Turn::Follows(Later::TakeFlags),
@@ -87,7 +91,7 @@ pub fn turn_of(e: Event) -> Turn
         Event::Reset => Turn::Follows(Later::Reset),
         Event::PowerOnResistors(r) => {
             if ranges::resistors_in_range(r) {
-                opens_with(coded::coded(r))
+                opens_with(coded::coded(r), FIRST_EDITION)
             } else {
                 Turn::OpensOutside
             }
@@ -96,6 +100,11 @@ pub fn turn_of(e: Event) -> Turn
             let x = t.sample;
             let second = t.second;
             observes_with(x, second)
+        }
+        Event::PowerOnEdition(v) => {
+            let p = v.profile;
+            let edition = v.edition;
+            opens_with(p, edition)
         }
         Event::WriteRun(address, raw) => Turn::Follows(Later::WriteRun(address, raw)),
         Event::ReadFlags(address) => Turn::Follows(Later::ReadFlags(address)),

@@ -2,6 +2,7 @@
 use crate::say;
 use report_state::answer::Stat;
 use report_state::stat;
+use settle_bands::joined;
 use state_parts::band::Band;
 use state_parts::state::Model;
 use state_parts::state::State;
@@ -51,7 +52,8 @@ fn state(s: State) {
     say::text(b": ");
     settings(s);
     say::text(b": ");
-    let b = s.band;
+    let held = s.bands;
+    let b = joined::pack_band(held);
     band(b);
     pin(stat::stat(s));
 }

@@ -5,9 +5,9 @@ use Rattle.state_start.proofs.start.Tie as tie
 
 returns : tie.Need-returns
 unfolding startState
-returns c = simp (c .start-sample .ensures, c .before .start-watchdog .ensures, c .before .before .start-cycle .ensures, c .before .before .before .start-latches .ensures, c .before .before .before .before .start-registers .ensures, c .before .before .before .before .before .start-settings .ensures)
+returns c = simp (c .start-bands .ensures, c .before .start-sample .ensures, c .before .before .start-watchdog .ensures, c .before .before .before .start-cycle .ensures, c .before .before .before .before .start-latches .ensures, c .before .before .before .before .before .start-registers .ensures, c .before .before .before .before .before .before .start-settings .ensures)
 
 pub start-spec : {M : Type 1} → statement M
 start-spec =
     tie.close
-    (tie.spec (λ c κs. tt) (λ c κs. tt) (λ c κs. tt) (λ c κs. tt) (λ c κs. tt) (λ c κs. tt) returns)
+    (tie.spec (λ c κs. tt) (λ c κs. tt) (λ c κs. tt) (λ c κs. tt) (λ c κs. tt) (λ c κs. tt) (λ c κs. tt) returns)

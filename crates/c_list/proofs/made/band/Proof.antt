@@ -16,12 +16,9 @@ returns-4 : tie.Need-returns-4
 returns-4 c = simp (c .match .keys4)
 
 returns-5 : tie.Need-returns-5
-returns-5 c = simp (c .match .keys5)
-
-returns-6 : tie.Need-returns-6
-returns-6 c =
+returns-5 c =
     let r = c .match .rest in
-    simp (ne-eqb _ 0 (r .0 .0 .0 .0 .1), ne-eqb _ 1 (r .0 .0 .0 .1), ne-eqb _ 2 (r .0 .0 .1), ne-eqb _ 3 (r .0 .1), ne-eqb _ 4 (r .1))
+    simp (ne-eqb _ 0 (r .0 .0 .0 .1), ne-eqb _ 1 (r .0 .0 .1), ne-eqb _ 2 (r .0 .1), ne-eqb _ 3 (r .1))
 
 pub band-spec : {M : Type 1} → statement M
-band-spec = tie.close (tie.spec returns returns-2 returns-3 returns-4 returns-5 returns-6)
+band-spec = tie.close (tie.spec returns returns-2 returns-3 returns-4 returns-5)

@@ -22,4 +22,5 @@ returns-6 c = simp (c .may-hold .ensures, c .before .before .access .given .1)
 pub bad-by-spec : {M : Type 1} → statement M
 bad-by-spec =
     tie.close
-    (tie.spec (λ c. search needs) (λ c. search needs) (λ c. search needs) (λ c. search needs) (λ c. search needs) (λ c. search needs) mul-may-hold (λ c κs. tt) (λ c. search needs) (λ c. search needs) (λ c. search needs) (λ c. search needs) (λ c. search needs) (λ c. search needs) (λ c. search needs) (λ c. search needs) (λ c. search needs) returns-6 (λ c. search needs) (λ c. search needs) (λ c. search needs) (λ c. search needs))
+    (tie.spec (λ c. search needs) (λ c. search needs) (λ c. search needs) (λ c. search needs) (λ c. search needs) (λ c. search needs) mul-may-hold (λ c κs. tt) (λ c. search needs) (λ c. search needs) (λ c. search needs) (λ c. search needs)
+    (λ c. rw (c .enum-told .given .1)) (λ c. rw (c .enum-told2 .given .1)) (λ c. rw (c .enum-told3 .given .1)) (λ c. rw (c .enum-told4 .given .1)) (λ c. rw (c .enum-told5 .given .1)) returns-6 (λ c. rw (c .enum-told6 .given .1)) (λ c. rw (c .enum-told7 .given .1)) (λ c. rw (c .enum-told8 .given .1)) (λ c. rw (c .enum-told9 .given .1)))

@@ -48,14 +48,18 @@ returns-10 c = simp (c .observes-with2 .ensures, c .before .before .before .e6 .
 
 returns-11 : tie.Need-returns-11
 unfolding turnOf
-returns-11 c = simp (c .before .e7 .given .1)
+returns-11 c = simp (c .opens-with3 .ensures, c .before .before .before .e7 .given .1)
 
 returns-12 : tie.Need-returns-12
 unfolding turnOf
 returns-12 c = simp (c .before .e8 .given .1)
 
+returns-13 : tie.Need-returns-13
+unfolding turnOf
+returns-13 c = simp (c .before .e9 .given .1)
+
 pub turn-of-spec : {M : Type 1} → statement M
 turn-of-spec =
     tie.close
-    (tie.spec (λ c. search needs) (λ c κs. tt) (λ c. search needs) (λ c. search needs) (λ c. search needs) (λ c. search needs) (λ c κs. tt) (λ c. search needs) (λ c. search needs) (λ c. search needs) (λ c κs. tt) (λ c κs. tt) (λ c κs. tt) (λ c. search needs) (λ c κs. tt) (λ c. search needs) (λ c. search needs)
-    returns returns-2 returns-3 returns-4 returns-5 returns-6 returns-7 returns-8 returns-9 returns-10 returns-11 returns-12)
+    (tie.spec (λ c. search needs) (λ c κs. tt) (λ c. search needs) (λ c. search needs) (λ c. search needs) (λ c. search needs) (λ c κs. tt) (λ c. search needs) (λ c. search needs) (λ c. search needs) (λ c κs. tt) (λ c κs. tt) (λ c κs. tt) (λ c. search needs) (λ c κs. tt) (λ c. search needs) (λ c κs. tt) (λ c. search needs) (λ c. search needs)
+    returns returns-2 returns-3 returns-4 returns-5 returns-6 returns-7 returns-8 returns-9 returns-10 returns-11 returns-12 returns-13)
