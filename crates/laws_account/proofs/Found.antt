@@ -34,7 +34,7 @@ use Rattle.step_turns.specs.declared.later.Later.{Later}
 use Rattle.step_turns.specs.declared.later.Later.the-variants.{Set, Write, TakeFlags, Observe, Service, Reset, WriteRun, ReadFlags}
 use Rattle.laws_account.specs.Held.{profileOf, sampleOf, regulated, elapsed, wasReset, wasServed, expired, overridden, takes, cellsOf, fieldAt}
 use Rattle.laws_account.specs.Valued.{givenBy, settingOf, runGives}
-use Rattle.laws_account.specs.Judged.{bandAt}
+use Rattle.laws_account.specs.Bands.{bandsAt}
 use Rattle.laws_account.specs.Cycles.{Stage, trickle, precharge, fast, limitOf, heldIn, unitsAfter, gave, isDone, wasDone, timeIn, timeFound, phaseAt}
 use Rattle.laws_account.specs.States.{numbered, settingsAt, registersAt, latchesAt, watchdogAt, cycleAt, flagsAt, stateBy, stateOf}
 use Rattle.laws_account.proofs.Choices.{added}
@@ -65,7 +65,7 @@ changed r t g c w x = record {
   watchdog = w;
   sample = x;
   phase = phaseAt r;
-  band = bandAt r;
+  bands = bandsAt r;
   flags = flagsAt phaseAt r;
 }
 

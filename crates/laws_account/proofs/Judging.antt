@@ -16,8 +16,8 @@ use Rattle.state_parts.specs.declared.band.TsBand.the-variants as ts
 use Rattle.state_parts.specs.declared.phase.Phase.{Phase}
 use Rattle.state_parts.specs.declared.phase.Phase.the-variants.{Idle, Trickle, Precharge, Fast, Taper, Done, Suspended, Fault}
 use Rattle.state_parts.specs.declared.state.State.{State}
-use Rattle.settle_bands.specs.Thresholds.{th1At, th2At, th3At, th5At, firstBand, bandOf}
-use Rattle.settle_bands.specs.Joined.{either, joinedOf, packBandOf}
+use Rattle.settle_bands.specs.Joined.{either, joinedOf, packBand}
+use Rattle.settle_bands.specs.Holding.{bandsOf}
 use Rattle.settle_bands.specs.Effect as effect
 use Rattle.settle_bands.specs.Effect.{suspendsOf}
 use Rattle.state_fields.specs.Held.{fieldOf}
@@ -38,12 +38,14 @@ use Rattle.laws_account.specs.History.{Run, powered, _▸_, since}
 use Rattle.step_turns.specs.declared.later.Later.{Later}
 use Rattle.laws_account.specs.Held.{profileOf, sampleOf, wasObserved, wasReset, cellsOf}
 use Rattle.laws_account.specs.Valued.{pinFault, givenBy, settingOf}
-use Rattle.laws_account.specs.Judged.{vbat, packClamp, baseAt, inputOk, inputOver, inputGood, cellPoint, short, low, lowEnds, packOver, Thermistor, firstTs, secondTs, tsOf, tsBandAt, joinTable, bandAt, suspendedIn, suspended, chargeVoltage, permitted, tapering, rechargeDue, ending}
+use Rattle.laws_account.specs.Judged.{vbat, packClamp, baseAt, inputOk, inputOver, inputGood, cellPoint, short, low, lowEnds, packOver, suspendedIn, suspended, chargeVoltage, permitted, tapering, rechargeDue, ending}
+use Rattle.laws_account.specs.Bands.{firstTs, secondTs, tsBandAt, joinTable, bandsAt, bandAt}
 use Rattle.laws_account.specs.Cycles.{isDone, wasDone, limitFound, fault, phaseAt}
 use Rattle.laws_account.specs.States.{settingsAt, registersAt, latchesAt, watchdogAt}
 use Rattle.laws_account.proofs.Choices.{held-since, forced-since, barred-since}
 use Rattle.laws_account.proofs.Values.{force-is}
-use Rattle.laws_account.proofs.Fields.{th1, th2, th3, th5, en-ts, en-jeita, isetc, vset, vchg-lifted, ichg-lifted}
+use Rattle.laws_account.proofs.Fields.{isetc, vset, vchg-lifted, ichg-lifted}
+use Rattle.laws_account.proofs.Banding.{next-is}
 use Rattle.laws_account.proofs.Found.{changed, givenAt, cycleFound, found}
 
 -- the paper's number of phase 4
@@ -89,13 +91,6 @@ not-early : (r : Run) (w o : Bool) (t : Bool) → eqb (phaseNumber (phaseAt r)) 
 not-early r w o true h = rw (four-not-done r (eqb-true (phaseNumber (phaseAt r)) 4 h), and-false w)
 not-early r w o false h = rw (and-false o, and-false (w && isDone phaseAt r))
 
-judged-ts : (k : Thermistor) (m : Run) → bandOf (profileOf m) (registersAt m) (tsOf k (sampleOf m)) ≡ tsBandAt k m
-unfolding bandOf tsBandAt
-judged-ts k m =
-    let p = profileOf m in
-    let ts = tsOf k (sampleOf m) in
-    λ i. firstBand (eqb (en-ts m i) 0) (leb (th1At p (th1 m i)) ts) (leb ts (th5At p (th5 m i))) (eqb (en-jeita m i) 1 && leb (th2At p (th2 m i)) ts) (eqb (en-jeita m i) 1 && leb ts (th3At p (th3 m i)))
-
 -- the order of 02, R-7 gives the table
 pub joined-table : (a b : TsBand) → joinedOf a b ≡ joinTable a b
 unfolding joinedOf either
@@ -125,9 +120,10 @@ joined-table ts.Warm ts.Hot = refl
 joined-table ts.Warm ts.Cool = refl
 joined-table ts.Warm ts.Warm = refl
 
-pub judged-band : (m : Run) → packBandOf (profileOf m) (registersAt m) (sampleOf m) ≡ bandAt m
-unfolding packBandOf bandAt
-judged-band m = (λ i. joinedOf (judged-ts firstTs m i) (judged-ts secondTs m i)) ∙ joined-table (tsBandAt firstTs m) (tsBandAt secondTs m)
+-- the pack's band, of the two that are held
+pub pack-is : (m : Run) → packBand (bandsAt m) ≡ bandAt m
+unfolding bandsAt bandAt
+pack-is m = joined-table (tsBandAt firstTs m) (tsBandAt secondTs m)
 
 module _ (r : Run) (e : Later) where
   settings-are : storedOf (faultOf (profileOf (r ▸ e)) (registersAt (r ▸ e))) (givenAt r e) ≡ settingsAt (r ▸ e)
@@ -171,9 +167,9 @@ module _ (r : Run) (e : Later) where
     packover = barred-since (pinFault m) (not (belowShare (vbat m) (baseAt m) 1040)) (not (belowShare (vbat m) (baseAt m) 1020)) (packOver r) i;
   }
 
-  pub band-is : packBandOf (profileOf r) (registersAt (r ▸ e)) (sampleOf (r ▸ e)) ≡ bandAt (r ▸ e)
-  unfolding profileOf
-  band-is = judged-band m
+  pub bands-are : bandsOf (profileOf r) (registersAt (r ▸ e)) (sampleOf (r ▸ e)) (bandsAt r) ≡ bandsAt (r ▸ e)
+  unfolding bandsOf bandsAt
+  bands-are = λ i. record { first = next-is firstTs r e i; second = next-is secondTs r e i }
 
   -- the tests after the event, as the account has them
   abbrev pub testsAt : Tests

@@ -8,6 +8,7 @@ pub mod Fields
 pub mod Ran
 mod Found
 pub mod Sharing
+pub mod Banding
 pub mod Judging
 pub mod Settling
 mod Raising

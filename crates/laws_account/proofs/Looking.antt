@@ -28,12 +28,13 @@ use Rattle.report_registers.specs.Reads.{chargeStat, statuses, statusOf, codeBy
 use Rattle.laws_account.specs.History.{Run}
 use Rattle.laws_account.specs.Held.{profileOf, sampleOf, fieldAt}
 use Rattle.laws_account.specs.Valued.{enabled}
-use Rattle.laws_account.specs.Judged.{inputGood, inputOver, packOver, bandAt}
+use Rattle.laws_account.specs.Judged.{inputGood, inputOver, packOver}
 use Rattle.laws_account.specs.Cycles.{numberAt, limitReached, phaseAt}
 use Rattle.laws_account.specs.Refused.{none, some}
 use Rattle.laws_account.specs.States.{settingsAt, registersAt, latchesAt, cycleAt, stateBy, stateOf}
 use Rattle.laws_account.specs.Looked.{statAt, statusAt, codeIn, registerAt, StatIsModel, RegisterIsModel}
 use Rattle.laws_account.proofs.Dogs.{expired-is}
+use Rattle.laws_account.proofs.Judging.{pack-is}
 use Rattle.laws_account.proofs.Fields.{field-is}
 
 -- by the phase
@@ -64,7 +65,7 @@ status-is r number =
     ∷ bitOf (vindpmOf (sampleOf r))
     ∷ bitOf (iindpmOf (sampleOf r))
     ∷ bitOf (inputGood r)
-    ∷ bandNumber (bandAt r)
+    ∷ bandNumber (pack-is r i)
     ∷ bitOf (shutdownOf (sampleOf r))
     ∷ bitOf (limitReached phaseAt r)
     ∷ bitOf (packOver r) * 2

@@ -5,13 +5,13 @@ use mathlib.Core.Path.{_≡_, refl, sym, ap, _∙_}
 use mathlib.Core.Bool.{Bool, true, false, not, _&&_, _||_}
 use Rattle.base.specs.Units.{below, belowShare}
 use Rattle.state_parts.specs.Edges.{noFlags, powerOnFlags}
-use Rattle.state_parts.specs.declared.band.Band.the-variants.{Normal}
 use Rattle.state_parts.specs.declared.phase.Phase.the-variants.{Idle}
 use Rattle.state_parts.specs.declared.profile.Profile.{Profile}
 use Rattle.state_parts.specs.declared.state.State.{State}
-use Rattle.state_start.specs.Values.{startSettings, startRegisters, startLatches, startCycle, startWatchdog, startSample, startState}
+use Rattle.state_start.specs.Values.{startSettings, startRegisters, startLatches, startCycle, startWatchdog, startSample, startBands, startState}
 use Rattle.state_valid.specs.Holds.{profileOk}
-use Rattle.settle_bands.specs.Joined.{packBandOf}
+use Rattle.settle_bands.specs.Joined.{packBand}
+use Rattle.settle_bands.specs.Holding.{bandsOf}
 use Rattle.state_fields.specs.Held.{startWords}
 use Rattle.settle_levels.specs.Clamps.{faultOf}
 use Rattle.settle_levels.specs.Comparators.{inputOkOf, inputOverOf, shortOf, lowOf, packOverOf, latchesOf}
@@ -24,13 +24,15 @@ use Rattle.state_parts.specs.With.{withFlags}
 use Rattle.laws_account.specs.History.{Run, powered, since, sumAfter, count}
 use Rattle.laws_account.specs.Held.{profileOf, sampleOf, unserved, cellsOf, fieldAt}
 use Rattle.laws_account.specs.Valued.{pinFault, startValue, settingOf}
-use Rattle.laws_account.specs.Judged.{vbat, baseAt, lowEnds, inputOk, inputOver, inputGood, cellPoint, short, low, packOver, bandAt, permitted}
+use Rattle.laws_account.specs.Judged.{vbat, baseAt, lowEnds, inputOk, inputOver, inputGood, cellPoint, short, low, packOver, permitted}
+use Rattle.laws_account.specs.Bands.{firstTs, secondTs, bandsAt}
 use Rattle.laws_account.specs.Cycles.{isDone, timeIn, phaseBy, phasesOf, phaseAt}
 use Rattle.laws_account.specs.Flagged.{wasTaken, flagged}
 use Rattle.laws_account.specs.States.{settingsAt, registersAt, latchesAt, watchdogAt, cycleAt, flagsAt, stateBy, stateOf}
 use Rattle.laws_account.proofs.Choices.{zero-low}
 use Rattle.laws_account.proofs.Values.{start-is, force-is}
-use Rattle.laws_account.proofs.Judging.{fault-is, base-is, judged-band}
+use Rattle.laws_account.proofs.Judging.{fault-is, base-is}
+use Rattle.laws_account.proofs.Banding.{start-is as start-band-is}
 use Rattle.laws_account.proofs.Settling.{flaggedWith}
 use Rattle.laws_account.proofs.Starting.{below-short, below-any}
 
@@ -70,7 +72,7 @@ module _ (p : Profile) where
     watchdog = startWatchdog;
     sample = startSample p;
     phase = Idle;
-    band = Normal;
+    bands = startBands;
     flags = noFlags;
   }
 
@@ -85,7 +87,7 @@ module _ (p : Profile) where
     watchdog = startWatchdog;
     sample = startSample p;
     phase = Idle;
-    band = Normal;
+    bands = startBands;
     flags = noFlags;
   }
 
@@ -140,7 +142,7 @@ module _ (p : Profile) where
     unfolding isDone since
     done-start = rw (sym phase-start)
 
-    settled-start : settledOf begun (latchesAt on) (bandAt on) (testsOf begun (latchesAt on) (bandAt on) false) ≡ flaggedWith on noFlags
+    settled-start : settledOf begun (latchesAt on) (bandsAt on) (testsOf begun (latchesAt on) (packBand (bandsAt on)) false) ≡ flaggedWith on noFlags
     unfolding settledOf testsOf cycleOf phaseOf judgedOf endsOf clearsOf permittedOf latchesAt inputOk since sampleOf profileOf cycleAt timeIn sumAfter watchdogAt unserved
     settled-start = λ i. record {
       profile = p;
@@ -151,25 +153,25 @@ module _ (p : Profile) where
       watchdog = record { count = zero-low (p .watchdog * 1000) i };
       sample = startSample p;
       phase = phase-start i;
-      band = bandAt on;
+      bands = bandsAt on;
       flags = noFlags;
     }
 
     abbrev settledFrom : State → State
     settledFrom f =
         let k = latchesOf (f .profile) (f .settings) (f .registers) (f .sample) (f .latches) in
-        let b = packBandOf (f .profile) (f .registers) (f .sample) in
-        settledOf f k b (testsOf f k b false)
+        let b = bandsOf (f .profile) (f .registers) (f .sample) (f .bands) in
+        settledOf f k b (testsOf f k (packBand b) false)
 
-    band-start : packBandOf p (registersAt on) (startSample p) ≡ bandAt on
-    unfolding profileOf sampleOf
-    band-start = judged-band on
+    bands-start : bandsOf p (registersAt on) (startSample p) startBands ≡ bandsAt on
+    unfolding bandsOf bandsAt sampleOf
+    bands-start = λ i. record { first = start-band-is firstTs p i; second = start-band-is secondTs p i }
 
     settle-start : settleOf (startState p) false ≡ flaggedWith on noFlags
     unfolding settleOf
     settle-start =
         ap settledFrom forced-start
-        ∙ (λ i. settledOf begun (latches-start i) (band-start i) (testsOf begun (latches-start i) (band-start i) false))
+        ∙ (λ i. settledOf begun (latches-start i) (bands-start i) (testsOf begun (latches-start i) (packBand (bands-start i)) false))
         ∙ settled-start
 
     pub powered-is : poweredOf p ≡ stateOf (powered p)

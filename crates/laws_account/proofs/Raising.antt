@@ -31,7 +31,9 @@ use Rattle.laws_account.specs.Flagged as flag
 use Rattle.laws_account.specs.Flagged.{Flag, placeOf, everyFlag, flagsBy, anyOf, isIn, wasTaken, edge, flagged, isFound, handedBack, pulsed}
 use Rattle.laws_account.specs.States.{settingsAt, latchesAt, cycleAt, flagsAt, stateBy, stateOf}
 use Rattle.laws_account.proofs.Choices.{or-swap}
+use Rattle.state_parts.specs.Numbers.{bandNumber}
 use Rattle.laws_account.proofs.Dogs.{expired-is}
+use Rattle.laws_account.proofs.Judging.{pack-is}
 use Rattle.laws_account.proofs.Found.{writtenBy, found, written-is}
 use Rattle.laws_account.proofs.Settling.{flaggedWith, settle-is}
 
@@ -73,6 +75,10 @@ module _ (r : Run) (e : Later) where
   unfolding seenOf edge stateBy
   expires-is = λ i. begins (expired-is r i) (expired-is (r ▸ e) i)
 
+  moves-is : not (eqb (seenOf (stateOf r) .band) (seenOf (flaggedWith (r ▸ e) (flagsAt phaseAt r)) .band)) ≡ edge phaseAt flag.band (r ▸ e)
+  unfolding seenOf edge stateBy
+  moves-is = λ i. not (eqb (bandNumber (pack-is r i)) (bandNumber (pack-is (r ▸ e) i)))
+
   edges-are : edgesOf (seenOf (stateOf r)) (seenOf (flaggedWith (r ▸ e) (flagsAt phaseAt r))) ≡ edges
   unfolding edgesOf edge stateBy seenOf reachedOf limitReached latchesAt cycleAt inputGood
   edges-are = λ i. record {
@@ -83,7 +89,7 @@ module _ (r : Run) (e : Later) where
     thermal = edge phaseAt flag.thermal (r ▸ e);
     expired = expires-is i;
     phase = edge phaseAt flag.phase (r ▸ e);
-    band = edge phaseAt flag.band (r ▸ e);
+    band = moves-is i;
     inputover = edge phaseAt flag.inputover (r ▸ e);
     shutdown = edge phaseAt flag.shutdown (r ▸ e);
     packover = edge phaseAt flag.packover (r ▸ e);

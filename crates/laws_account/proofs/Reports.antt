@@ -14,12 +14,14 @@ use Rattle.report_state.specs.Report.{trickleCurrent, currentIn, chargeClampOf,
 use Rattle.laws_account.specs.History.{Run}
 use Rattle.laws_account.specs.Held.{profileOf}
 use Rattle.laws_account.specs.Valued.{settingOf, enabled}
-use Rattle.laws_account.specs.Judged.{chargeClamp, bandAt}
+use Rattle.laws_account.specs.Judged.{chargeClamp}
+use Rattle.laws_account.specs.Bands.{bandAt}
 use Rattle.laws_account.specs.Cycles.{phaseAt}
 use Rattle.state_parts.specs.Pins.{ichgOf}
 use Rattle.laws_account.proofs.Fields.{ichg-lifted}
 use Rattle.laws_account.proofs.Sharing.{share-is}
-use Rattle.laws_account.proofs.Judging.{voltage-is}
+use Rattle.laws_account.proofs.Judging.{voltage-is, pack-is}
+use Rattle.settle_levels.specs.Voltage.{chargeVoltageOf}
 use Rattle.state_parts.specs.Stages.{charging}
 use Rattle.laws_account.specs.States.{settingsAt, registersAt, stateBy, stateOf}
 use Rattle.laws_account.specs.Looked.{ReportIsModel}
@@ -54,4 +56,10 @@ unfolding reportOf reportAt currentAt voltageAt stateBy settingsAt
 report-is-model r =
     let trickle = trickleCurrent (profileOf r) in
     let current = ap (currentIn (phaseAt r) trickle (settingOf 3 r)) (fast-is r) ∙ current-is (phaseAt r) trickle (settingOf 3 r) (fastAt r) in
-    λ i. record { phase = phaseAt r; current = current i; voltage = pick (charging (phaseAt r)) (voltage-is r i) (packOf 0); limit = input-limit-is r i }
+    (λ i. record {
+      phase = phaseAt r;
+      current = currentIn (phaseAt r) trickle (settingOf 3 r) (fastCurrent (profileOf r) (settingsAt r) (registersAt r) (pack-is r i));
+      voltage = pick (charging (phaseAt r)) (chargeVoltageOf (profileOf r) (settingsAt r) (registersAt r) (pack-is r i)) (packOf 0);
+      limit = inputLimitOf (profileOf r) (settingsAt r);
+    })
+    ∙ λ i. record { phase = phaseAt r; current = current i; voltage = pick (charging (phaseAt r)) (voltage-is r i) (packOf 0); limit = input-limit-is r i }

@@ -5,9 +5,11 @@ use mathlib.Core.Bool.{false, not, _&&_, _||_}
 use lib.Dec.{leb, ltb, eqb}
 use Rattle.base.specs.Pick.{pick}
 use Rattle.state_parts.specs.Numbers.{phaseNumber}
+use Rattle.state_parts.specs.declared.band.Band.{Band}
 use Rattle.state_parts.specs.declared.profile.Profile.{Profile}
 use Rattle.state_parts.specs.declared.state.State.{State}
-use Rattle.settle_bands.specs.Joined.{packBandOf}
+use Rattle.settle_bands.specs.Joined.{packBand}
+use Rattle.settle_bands.specs.Holding.{bandsOf}
 use Rattle.settle_levels.specs.Comparators.{latchesOf}
 use Rattle.settle_phases.specs.Cycles.{cycleOf}
 use Rattle.settle_phases.specs.Order.{clearsOf, endsOf, phaseOf}
@@ -17,7 +19,8 @@ use Rattle.settle_all.specs.Settle.{settledOf, settleOf}
 use Rattle.laws_account.specs.History.{Run, powered, _▸_, since, sumAfter}
 use Rattle.step_turns.specs.declared.later.Later.{Later}
 use Rattle.laws_account.specs.Held.{profileOf, sampleOf, wasObserved, wasReset}
-use Rattle.laws_account.specs.Judged.{inputOk, inputGood, bandAt, permitted}
+use Rattle.laws_account.specs.Judged.{inputOk, inputGood, permitted}
+use Rattle.laws_account.specs.Bands.{bandsAt}
 use Rattle.laws_account.specs.Cycles.{Stage, trickle, precharge, fast, isDone, wasDone, restarts, starts, timeIn, timeFound, chargeEnds, phaseBy, phaseAt}
 use Rattle.laws_account.specs.States.{settingsAt, registersAt, latchesAt, watchdogAt, cycleAt, flagsAt}
 use Rattle.laws_account.specs.Runs.{RestartsExactly}
@@ -25,7 +28,7 @@ use Rattle.laws_account.proofs.Past.{phase-keeps-rule}
 use Rattle.laws_account.proofs.Rule.{listed, Same, same-rule, restart-rule}
 use Rattle.laws_account.proofs.Choices.{middle, cleared-or}
 use Rattle.laws_account.proofs.Found.{cycleFound, found}
-use Rattle.laws_account.proofs.Judging.{ready, forced-is, latches-are, band-is, testsAt, tests-are, not-both}
+use Rattle.laws_account.proofs.Judging.{ready, forced-is, latches-are, pack-is, bands-are, testsAt, tests-are, not-both}
 
 -- a run's state with these flags
 abbrev pub flaggedWith : Run → ℕ → State
@@ -38,7 +41,7 @@ flaggedWith r flags = record {
   watchdog = watchdogAt r;
   sample = sampleOf r;
   phase = phaseAt r;
-  band = bandAt r;
+  bands = bandsAt r;
   flags = flags;
 }
 
@@ -78,7 +81,7 @@ module _ (r : Run) (e : Later) where
   unfolding cycleOf cycleAt
   cycle-is = λ i. record { trickle = time-is trickle i; precharge = time-is precharge i; fast = time-is fast i; done = done-is i }
 
-  settled-ready : settledOf (ready r e) (latchesAt (r ▸ e)) (bandAt (r ▸ e)) t ≡ flaggedWith (r ▸ e) (flagsAt phaseAt r)
+  settled-ready : settledOf (ready r e) (latchesAt (r ▸ e)) (bandsAt (r ▸ e)) t ≡ flaggedWith (r ▸ e) (flagsAt phaseAt r)
   unfolding settledOf profileOf
   settled-ready = λ i. record {
     profile = profileOf r;
@@ -89,22 +92,23 @@ module _ (r : Run) (e : Later) where
     watchdog = watchdogAt (r ▸ e);
     sample = sampleOf (r ▸ e);
     phase = phase-is i;
-    band = bandAt (r ▸ e);
+    bands = bandsAt (r ▸ e);
     flags = flagsAt phaseAt r;
   }
 
   abbrev settledFrom : State → State
   settledFrom f =
       let k = latchesOf (f .profile) (f .settings) (f .registers) (f .sample) (f .latches) in
-      let b = packBandOf (f .profile) (f .registers) (f .sample) in
-      settledOf f k b (testsOf f k b (wasObserved (r ▸ e)))
+      let b = bandsOf (f .profile) (f .registers) (f .sample) (f .bands) in
+      settledOf f k b (testsOf f k (packBand b) (wasObserved (r ▸ e)))
 
   pub settle-is : settleOf (found r e) (wasObserved (r ▸ e)) ≡ flaggedWith (r ▸ e) (flagsAt phaseAt r)
   unfolding settleOf
   settle-is =
       ap settledFrom (forced-is r e)
-      ∙ (λ i. settledOf (ready r e) (latches-are r e i) (band-is r e i) (testsOf (ready r e) (latches-are r e i) (band-is r e i) (wasObserved (r ▸ e))))
-      ∙ ap (settledOf (ready r e) (latchesAt (r ▸ e)) (bandAt (r ▸ e))) (tests-are r e)
+      ∙ (λ i. settledOf (ready r e) (latches-are r e i) (bands-are r e i) (testsOf (ready r e) (latches-are r e i) (packBand (bands-are r e i)) (wasObserved (r ▸ e))))
+      ∙ ap (λ (b : Band). settledOf (ready r e) (latchesAt (r ▸ e)) (bandsAt (r ▸ e)) (testsOf (ready r e) (latchesAt (r ▸ e)) b (wasObserved (r ▸ e)))) (pack-is (r ▸ e))
+      ∙ ap (settledOf (ready r e) (latchesAt (r ▸ e)) (bandsAt (r ▸ e))) (tests-are r e)
       ∙ settled-ready
 
   restart-next : (permitted (r ▸ e) && restarts phaseAt (r ▸ e)) ≡ (t .permitted && not (t .fault) && not (t .suspended) && t .done && t .recharge)

@@ -12,7 +12,8 @@ use Rattle.laws_account.specs.History.{Run, powered, _▸_, since}
 use Rattle.step_turns.specs.declared.later.Later.the-variants.{Set, Write, TakeFlags, Observe, Service, Reset, WriteRun, ReadFlags}
 use Rattle.laws_account.specs.Held.{profileOf, sampleOf, expired}
 use Rattle.laws_account.specs.Valued.{settingOf}
-use Rattle.laws_account.specs.Judged.{inputGood, inputOver, packOver, bandAt}
+use Rattle.laws_account.specs.Judged.{inputGood, inputOver, packOver}
+use Rattle.laws_account.specs.Bands.{bandAt}
 use Rattle.laws_account.specs.Cycles.{limitReached}
 
 -- the twelve flags, bit 0 to bit 11

@@ -1,4 +1,4 @@
--- The account, what settling judges of a moment before any phase: clamps, base, comparators, band, permission.
+-- The account, what settling judges of a moment before any phase: clamps, base, comparators, what the band does, permission.
 use Prim.Native.Nat.{ℕ, _-_, _%_}
 use mathlib.Core.Bool.{Bool, true, false, not, _&&_, _||_}
 use lib.Dec.{leb, eqb}
@@ -12,11 +12,7 @@ use Rattle.base.specs.declared.units.PackMv.{PackMv}
 use Rattle.state_parts.specs.Pins.{vchgOf, ichgOf}
 use Rattle.state_parts.specs.declared.band.Band.{Band}
 use Rattle.state_parts.specs.declared.band.Band.the-variants.{Normal, Cold, Cool, Warm, Hot, Mixed}
-use Rattle.state_parts.specs.declared.band.TsBand.{TsBand}
-use Rattle.state_parts.specs.declared.band.TsBand.the-variants as ts
-use Rattle.state_parts.specs.declared.sample.Sample.{Sample}
-use Rattle.state_table.specs.Rows.{enTs, enJeita, tsTh1, tsTh2, tsTh3, tsTh5, jeitaIsetc, jeitaIseth, jeitaVset}
-use Rattle.settle_bands.specs.Thresholds.{th1At, th2At, th3At, th5At}
+use Rattle.state_table.specs.Rows.{jeitaIsetc, jeitaIseth, jeitaVset}
 use Rattle.settle_bands.specs.Effect.{coolShare, warmShare, warmCut}
 use Rattle.settle_levels.specs.Comparators.{lowEndsAt}
 use Rattle.settle_levels.specs.Voltage.{rechargeShareAt}
@@ -24,6 +20,7 @@ use Rattle.settle_permission.specs.Bits.{ceHigh, hizHigh}
 use Rattle.laws_account.specs.History.{Run, powered, _▸_, since}
 use Rattle.laws_account.specs.Held.{profileOf, sampleOf, regulated, vchg, ichg, overridden, cellsOf, fieldAt}
 use Rattle.laws_account.specs.Valued.{pinFault, settingOf, enabled}
+use Rattle.laws_account.specs.Bands.{bandAt}
 
 unfoldable pub vbat : Run → PackMv
 vbat r = packOf (sampleOf r .pack)
@@ -79,46 +76,6 @@ low = since (λ m. belowShare (vbat m) (baseAt m) (lowEnds m)) (λ m. faultOrOn 
 unfoldable pub packOver : Run → Bool
 packOver =
     since (λ m. not (faultOrOn m) && not (belowShare (vbat m) (baseAt m) 1020)) (λ m. not (faultOrOn m) && not (belowShare (vbat m) (baseAt m) 1040))
-
--- 02, R-7: "New packs have one at each end. The sample gets a second TS value"
-pub data Thermistor : Type 0 where
-  firstTs secondTs : Thermistor
-
-abbrev pub tsOf : Thermistor → Sample → ℕ
-tsOf firstTs x = x .ts
-tsOf secondTs x = x .secondts
-
--- "Band, first that holds: EN_TS 0 normal; TS >= TH1 cold; TS <= TH5 hot; with EN_JEITA: TS >= TH2 cool; TS <= TH3 warm; else normal.", of each thermistor "by the same registers"
-unfoldable pub tsBandAt : Thermistor → Run → TsBand
-tsBandAt k r =
-    let p = profileOf r in
-    let t = tsOf k (sampleOf r) in
-    let jeita = eqb (fieldAt enJeita r) 1 in
-    pick (eqb (fieldAt enTs r) 0) ts.Normal
-    (pick (leb (th1At p (fieldAt tsTh1 r)) t) ts.Cold
-    (pick (leb t (th5At p (fieldAt tsTh5 r))) ts.Hot
-    (pick (jeita && leb (th2At p (fieldAt tsTh2 r)) t) ts.Cool
-    (pick (jeita && leb t (th3At p (fieldAt tsTh3 r))) ts.Warm
-    ts.Normal))))
-
--- "If either is cold the band is cold, else if either is hot it is hot; cool beside warm counts as a new band, apart ..; otherwise the one that isn't normal decides.": a table
--- with a row to the first thermistor's band and a column to the second's, which are normal, cold, hot, cool and warm
-abbrev pub rowOf : Band → Band → Band → Band → Band → TsBand → Band
-rowOf normal cold hot cool warm ts.Normal = normal
-rowOf normal cold hot cool warm ts.Cold = cold
-rowOf normal cold hot cool warm ts.Hot = hot
-rowOf normal cold hot cool warm ts.Cool = cool
-rowOf normal cold hot cool warm ts.Warm = warm
-
-abbrev pub joinTable : TsBand → TsBand → Band
-joinTable ts.Normal b = rowOf Normal Cold Hot Cool Warm b
-joinTable ts.Cold b = rowOf Cold Cold Cold Cold Cold b
-joinTable ts.Hot b = rowOf Hot Cold Hot Hot Hot b
-joinTable ts.Cool b = rowOf Cool Cold Hot Cool Mixed b
-joinTable ts.Warm b = rowOf Warm Cold Hot Mixed Warm b
-
-unfoldable pub bandAt : Run → Band
-bandAt r = joinTable (tsBandAt firstTs r) (tsBandAt secondTs r)
 
 -- "6 suspended, cold, hot, cool with JEITA_ISETC 0, warm with JEITA_VSET 0"; 02, R-7: "a new band, apart, which suspends"
 abbrev pub suspendedIn : Band → Run → Bool

@@ -2,6 +2,7 @@
 pub mod History
 pub mod Held
 pub mod Valued
+pub mod Bands
 pub mod Judged
 pub mod Cycles
 pub mod Flagged

@@ -21,7 +21,8 @@ use Rattle.report_registers.specs.Reads.{chargeStat, anyOf, allOf, pinOf, byteB
 use Rattle.laws_account.specs.History.{Run}
 use Rattle.laws_account.specs.Held.{profileOf, sampleOf, expired, cellsOf, fieldAt}
 use Rattle.laws_account.specs.Valued.{settingOf, enabled}
-use Rattle.laws_account.specs.Judged.{inputGood, inputOver, packOver, bandAt}
+use Rattle.laws_account.specs.Judged.{inputGood, inputOver, packOver}
+use Rattle.laws_account.specs.Bands.{bandAt}
 use Rattle.laws_account.specs.Cycles.{numberAt, limitReached, phaseAt}
 use Rattle.laws_account.specs.Reported.{reportAt}
 use Rattle.laws_account.specs.Refused.{Past, none, some}

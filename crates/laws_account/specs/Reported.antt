@@ -9,7 +9,8 @@ use Rattle.report_state.specs.declared.answer.Report.{Report}
 use Rattle.laws_account.specs.History.{Run}
 use Rattle.laws_account.specs.Held.{profileOf}
 use Rattle.laws_account.specs.Valued.{settingOf, enabled}
-use Rattle.laws_account.specs.Judged.{chargeClamp, bandAt, shareIn, chargeVoltage}
+use Rattle.laws_account.specs.Judged.{chargeClamp, shareIn, chargeVoltage}
+use Rattle.laws_account.specs.Bands.{bandAt}
 use Rattle.laws_account.specs.Cycles.{numberAt, phaseAt}
 
 -- "else the lower of ICHG and clamp, times 20, 40, 100% in cool (ISETC 1-3), 40 or 100% in warm"

@@ -21,7 +21,8 @@ use Rattle.step_kinds.specs.Answers.{Outcome, refusedWith}
 use Rattle.laws_account.specs.History.{Run}
 use Rattle.laws_account.specs.Held.{profileOf, sampleOf, unserved, cellsOf, fieldAt}
 use Rattle.laws_account.specs.Valued.{settingOf}
-use Rattle.laws_account.specs.Judged.{inputOk, inputOver, short, low, packOver, bandAt}
+use Rattle.laws_account.specs.Judged.{inputOk, inputOver, short, low, packOver}
+use Rattle.laws_account.specs.Bands.{bandsAt}
 use Rattle.laws_account.specs.Cycles.{trickle, precharge, fast, isDone, timeIn, phaseAt}
 use Rattle.laws_account.specs.Flagged.{flagsBy, flagged, handedBack, pulsed}
 use Rattle.laws_account.specs.Refused.{Past, none, some, refusalOf, nextOf}
@@ -76,7 +77,7 @@ module _ (P : Run → Phase) where
     watchdog = watchdogAt r;
     sample = sampleOf r;
     phase = P r;
-    band = bandAt r;
+    bands = bandsAt r;
     flags = flagsAt r;
   }
 

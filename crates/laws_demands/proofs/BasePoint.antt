@@ -4,7 +4,8 @@ use mathlib.Core.Path.{_≡_, refl, sym, subst}
 use mathlib.Core.Bool.{Bool, true, false, _&&_, and-false}
 use mathlib.Core.Logic.{_≢_}
 use Rattle.state_parts.specs.Numbers.{phaseNumber}
-use Rattle.settle_bands.specs.Joined.{packBandOf}
+use Rattle.settle_bands.specs.Joined.{packBand}
+use Rattle.settle_bands.specs.Holding.{bandsOf}
 use Rattle.settle_levels.specs.Clamps.{baseOf}
 use Rattle.settle_levels.specs.Comparators.{latchesOf}
 use Rattle.settle_levels.specs.Voltage.{belowRecharge}
@@ -13,7 +14,7 @@ use Rattle.settle_phases.specs.declared.tests.Tests.{Tests}
 use Rattle.settle_all.specs.Gather.{testsOf}
 use Rattle.settle_all.specs.Settle.{forcedOf, settledOf}
 use Rattle.settle_all.specs.EndTested.{endTested}
-use Rattle.step_turns.specs.Ranges.{profileInRange, sampleInRange, twoInRange}
+use Rattle.step_turns.specs.Ranges.{profileInRange, editionInRange, sampleInRange, twoInRange}
 use Rattle.step_turns.specs.Turns.{turnOf}
 use Rattle.laws_account.specs.History.{upTo, count}
 use Rattle.laws_account.specs.Held.{elapsed, sampleOf}
@@ -40,10 +41,10 @@ unfolding settledOf forcedOf belowRecharge baseOf
 never-done s observed below =
     let f = forcedOf s in
     let k = latchesOf (f .profile) (f .settings) (f .registers) (f .sample) (f .latches) in
-    let t = testsOf f k (packBandOf (f .profile) (f .registers) (f .sample)) observed in
+    let t = testsOf f k (packBand (bandsOf (f .profile) (f .registers) (f .sample) (f .bands))) observed in
     subst (λ (b : Bool). phaseNumber (phaseOf (endTested t b)) ≢ 5) (sym below) (never t)
 
 -- the customer's log leaves the customer's run
 pub customer-past : pastOf none (untilEnd 7900) ≡ some (warmAt 7900 3)
-unfolding pastOf nextOf refusalIn turnOf profileInRange sampleInRange twoInRange warm upTo count elapsed sampleOf
+unfolding pastOf nextOf refusalIn turnOf profileInRange editionInRange sampleInRange twoInRange warm upTo count elapsed sampleOf
 customer-past = refl

@@ -8,7 +8,7 @@ use lib.IntN.{pos}
 use lib.Dec.{eqb}
 use borrow.Author.Tests.{eq-eqb}
 use Rattle.log_event.specs.declared.Event.{Event}
-use Rattle.log_event.specs.declared.Event.the-variants.{PowerOn, Observe, ObserveTwo}
+use Rattle.log_event.specs.declared.Event.the-variants.{PowerOn, Write, Observe, ObserveTwo, PowerOnEdition}
 use Rattle.log_event.specs.declared.spelled.SpelledProfile.{SpelledProfile}
 use Rattle.log_event.specs.declared.spelled.SpelledSample.{SpelledSample}
 use Rattle.log_number.specs.Promises.{Bytes}
@@ -62,6 +62,41 @@ besides = ObserveTwo (record { sample = sample 1000 7600 0 70000 0; second = 400
 
 abbrev pub besideDay : List Event
 besideDay = PowerOn paper ∷ besides ∷ []
+
+-- 02, R-8: after the paper's power-on in the second edition; an observation of two TS
+abbrev pub inSecond : List Event → List Event
+inSecond es = PowerOnEdition (record { profile = paper; edition = 2 }) ∷ es
+
+abbrev pub twoSeen : ℕ → ℕ → ℕ → Event
+twoSeen stamp ts second = ObserveTwo (record { sample = sample stamp 7600 0 ts 0; second = second })
+
+-- cool beside cold, and then still cool beside one that left cold for cool
+abbrev pub coolBesideCold : List Event
+coolBesideCold = inSecond (twoSeen 1000 68250 75320 ∷ [])
+
+abbrev pub coldLeft : Event
+coldLeft = twoSeen 2000 67251 70000
+
+-- cold at TH1, which is then moved from 75,320 to 77,150
+abbrev pub coldBoth : List Event
+coldBoth = inSecond (twoSeen 1000 75320 75320 ∷ [])
+
+abbrev pub movedUp : Event
+movedUp = Write 0x18 0x94
+
+-- cool, and then at TH1
+abbrev pub coolBoth : List Event
+coolBoth = inSecond (twoSeen 1000 68250 68250 ∷ [])
+
+abbrev pub coldNow : Event
+coldNow = twoSeen 2000 75320 75320
+
+-- cold, left for cool, which suspends with JEITA_ISETC 0
+abbrev pub coolSuspends : List Event
+coolSuspends = inSecond (Write 0x19 0xD3 ∷ twoSeen 1000 75320 75320 ∷ [])
+
+abbrev pub leftForCool : Event
+leftForCool = twoSeen 2000 74320 74320
 
 -- a VBAT of each stage, and a limit for one stage alone
 abbrev pub levelOf : Stage → ℕ

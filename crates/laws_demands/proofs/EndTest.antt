@@ -2,6 +2,7 @@
 use mathlib.Core.Path.{_≡_, refl, ap}
 use Rattle.state_parts.specs.declared.state.State.{State}
 use Rattle.settle_all.specs.Settle.{settleOf}
+use Rattle.settle_bands.specs.Holding.{bandsOf}
 use Rattle.settle_all.proofs.EndTested.{test-decides-nothing}
 use Rattle.report_state.specs.Report.{reportOf}
 use Rattle.step_turns.specs.Turns.{turnOf}
@@ -16,8 +17,8 @@ unfolding stepOf turnedBy finishOf settleOf
 step-by-own-tests m e = refl
 
 same-step : stepEndTested ≡ stepOf
-unfolding stepEndTested stepOf turnedBy finishOf
-same-step = λ i m e. endedBy (finishBy (λ (s : State) observed. test-decides-nothing .settles s observed i)) m (changeOf m (turnOf e))
+unfolding stepEndTested stepOf turnedBy finishOf settleOf
+same-step = λ i m e. endedBy (finishBy (λ (s : State) observed. test-decides-nothing .settles bandsOf s observed i)) m (changeOf m (turnOf e))
 
 pub nothing-changes : NothingChanges
 nothing-changes = record {

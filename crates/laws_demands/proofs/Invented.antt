@@ -9,8 +9,9 @@ use Rattle.report_state.specs.Report.{fastCurrent, reportOf, chargeClampOf, inp
 use Rattle.settle_all.specs.Gather.{testsOf}
 use Rattle.settle_all.specs.Settle.{settleOf, forcedOf, settledOf}
 use Rattle.settle_bands.specs.Effect.{shareOf, cutOf, suspendsOf}
-use Rattle.settle_bands.specs.Thresholds.{bandOf}
-use Rattle.settle_bands.specs.Joined.{either, joinedOf, packBandOf}
+use Rattle.settle_bands.specs.Thresholds.{bandBy, marksOf, bandOf}
+use Rattle.settle_bands.specs.Joined.{either, joinedOf}
+use Rattle.settle_bands.specs.Holding.{staysBy, nextBy, nextOf, bandsOf}
 use Rattle.settle_levels.specs.Clamps.{baseOf, packClampOf, faultOf}
 use Rattle.settle_levels.specs.Comparators.{latchesOf, shortOf, lowOf, packOverOf}
 use Rattle.settle_levels.specs.Voltage.{chargeVoltageOf, belowRecharge, taperOf}
@@ -36,8 +37,8 @@ use Rattle.step_flags.specs.Edges.{edgesOf, seenOf}
 use Rattle.step_flags.specs.Expiry.{expiredOf, expiresOf}
 use Rattle.step_kinds.specs.Finish.{finishOf}
 use Rattle.step_kinds.specs.Plain.{setOf, writtenOf}
-use Rattle.step_turns.specs.Ranges.{profileInRange, sampleInRange, twoInRange}
-use Rattle.step_turns.specs.Turns.{turnOf}
+use Rattle.step_turns.specs.Ranges.{profileInRange, editionInRange, sampleInRange, twoInRange}
+use Rattle.step_turns.specs.Turns.{firstEdition, turnOf}
 use Rattle.laws_third.specs.Demand.{ranBy}
 use Rattle.state_parts.specs.With.{withCycle}
 use Rattle.state_parts.specs.declared.state.State.{State}
@@ -51,19 +52,19 @@ use Rattle.laws_demands.specs.Wrong.{timed, inventsTimes}
 use Rattle.laws_demands.proofs.Days.{limitFor, levelOf, seen, unlimitedIn}
 
 abbrev opened : Stage → State
-opened s = poweredOf (heldProfile (limitFor s 0))
+opened s = poweredOf (heldProfile (limitFor s 0) firstEdition)
 
 abbrev pub invented : Stage → ℕ → State
 invented s time = withCycle (opened s) (timed s time (opened s .cycle))
 
 begins : (s : Stage) (time : ℕ) → inventsTimes s time Off (PowerOn (limitFor s 0)) .model ≡ On (invented s time)
-unfolding inventsTimes stepOf turnedBy turnOf changeOf firstOf finishOf profileInRange
+unfolding inventsTimes stepOf turnedBy turnOf changeOf firstOf finishOf profileInRange editionInRange
 begins trickle time = refl
 begins precharge time = refl
 begins fast time = refl
 
 unfit : (s : Stage) (t : ℕ) → stateOk (invented s (suc t)) ≡ false
-unfolding stepOf reportOf fastCurrent chargeClampOf chargeVoltageOf inputLimitOf shareOf cutOf baseOf packClampOf inPack belowShare firstOf stateOk movedOf profileOk settingsOk registersOk cycleOk watchdogOk sampleOk setOf observeOf finishOf settledOf testsOf mayHold storeOf writeOf observedOf resetOf settleOf edgesOf merged pulseOf timesOf unitsOf packBandOf joinedOf either bandOf cycleOf phaseOf permittedOf suspendsOf belowRecharge taperOf endingOf flagsNumber startState heldOf wordsOk rangeOf writtenTo countedOf expiredOf clearedIf startSettings resetRegisters startVsysmin takenBy forcedOf latchesOf seenOf regulatedOf clearsOf endsOf judgedOf faultOf reachedOf settingNumbers fieldsOf ranges recounted writtenRegisters gathered startVreg startIchg shortOf lowOf packOverOf restartsOf fields turnedBy changeOf followedOf writtenOf turnOf profileInRange sampleInRange twoInRange seenOn startWords restoredBy withoutOverrides putIn withWord putAt expiresOf
+unfolding stepOf reportOf fastCurrent chargeClampOf chargeVoltageOf inputLimitOf shareOf cutOf baseOf packClampOf inPack belowShare firstOf stateOk movedOf profileOk settingsOk registersOk cycleOk watchdogOk sampleOk setOf observeOf finishOf settledOf testsOf mayHold storeOf writeOf observedOf resetOf settleOf edgesOf merged pulseOf timesOf unitsOf bandsOf nextOf nextBy staysBy joinedOf either bandOf bandBy marksOf cycleOf phaseOf permittedOf suspendsOf belowRecharge taperOf endingOf flagsNumber startState heldOf wordsOk rangeOf writtenTo countedOf expiredOf clearedIf startSettings resetRegisters startVsysmin takenBy forcedOf latchesOf seenOf regulatedOf clearsOf endsOf judgedOf faultOf reachedOf settingNumbers fieldsOf ranges recounted writtenRegisters gathered startVreg startIchg shortOf lowOf packOverOf restartsOf fields turnedBy changeOf followedOf writtenOf turnOf profileInRange editionInRange sampleInRange twoInRange seenOn startWords restoredBy withoutOverrides putIn withWord putAt expiresOf
 unfit trickle t = simp eqb·suc-zero
 unfit precharge t = simp eqb·suc-zero
 unfit fast t = simp eqb·suc-zero

@@ -18,6 +18,8 @@ pub mod BasePoint
 pub mod Older
 pub mod Soldered
 pub mod Thermistors
+pub mod Editions
+pub mod Sides
 pub mod Fives
 pub mod Typed
 mod Invented

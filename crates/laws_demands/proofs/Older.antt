@@ -13,9 +13,9 @@ use Rattle.laws_format.specs.Format.{Spells, kind-then-numbers, SpellsAll, no-e
 use Rattle.laws_format.specs.Older.{readsBy, Lacks, HasAll}
 use Rattle.laws_format.proofs.Formats.{listed-is}
 use Rattle.laws_format.proofs.Logs.{some-bytes}
-use Rattle.laws_format.proofs.Older.{every-old-reader, base-lacks-nine, lack-two}
+use Rattle.laws_format.proofs.Older.{every-old-reader, base-lacks-nine, lack-two, lack-edition}
 use Rattle.laws_demands.specs.Printed.{Log, readOn, logFrom, printedBy}
-use Rattle.laws_demands.specs.Older.{OldProgramStops, BaseStopsAtNine, OneTsStopsAtTen}
+use Rattle.laws_demands.specs.Older.{OldProgramStops, BaseStopsAtNine, OneTsStopsAtTen, OneEditionStopsAtEleven}
 
 -- records have a byte at least
 few : {es : List Event} {bytes : List ℕ} → SpellsAll es bytes → length es ≤ length bytes
@@ -57,3 +57,6 @@ base-stops-at-nine r = old-program-stops _ _ base-lacks-nine
 
 pub one-ts-stops-at-ten : OneTsStopsAtTen
 one-ts-stops-at-ten t = old-program-stops _ _ (lack-two .ten)
+
+pub one-edition-stops-at-eleven : OneEditionStopsAtEleven
+one-edition-stops-at-eleven v = old-program-stops _ _ (lack-edition .eleven)

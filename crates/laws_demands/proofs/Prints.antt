@@ -12,7 +12,7 @@ use Rattle.state_parts.specs.declared.state.Model.the-variants.{Off, On}
 use Rattle.log_event.specs.Events.{kindOf}
 use Rattle.log_event.specs.Kinds.{kindByte, kinds}
 use Rattle.log_event.specs.declared.Event.{Event}
-use Rattle.log_event.specs.declared.Event.the-variants.{PowerOn, Set, Write, TakeFlags, Observe, Service, Reset, PowerOnResistors, ObserveTwo, WriteRun, ReadFlags}
+use Rattle.log_event.specs.declared.Event.the-variants.{PowerOn, Set, Write, TakeFlags, Observe, Service, Reset, PowerOnResistors, ObserveTwo, PowerOnEdition, WriteRun, ReadFlags}
 use Rattle.log_record.specs.Records.{Met, met, refused, end, recordAt}
 use Rattle.report_state.specs.Lines.{lineOf}
 use Rattle.report_state.specs.Report.{reportOf}
@@ -36,6 +36,7 @@ kind-is Service = refl
 kind-is Reset = refl
 kind-is (PowerOnResistors r) = refl
 kind-is (ObserveTwo t) = refl
+kind-is (PowerOnEdition v) = refl
 kind-is (WriteRun address raw) = refl
 kind-is (ReadFlags address) = refl
 

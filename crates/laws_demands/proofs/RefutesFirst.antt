@@ -34,8 +34,9 @@ use Rattle.settle_permission.specs.Ending.{endingOf}
 use Rattle.settle_permission.specs.Limits.{reachedOf}
 use Rattle.settle_permission.specs.Permission.{permittedOf}
 use Rattle.settle_bands.specs.Effect.{suspendsOf, cutOf}
-use Rattle.settle_bands.specs.Thresholds.{bandOf}
-use Rattle.settle_bands.specs.Joined.{either, joinedOf, packBandOf}
+use Rattle.settle_bands.specs.Thresholds.{bandBy, marksOf, bandOf}
+use Rattle.settle_bands.specs.Joined.{either, joinedOf}
+use Rattle.settle_bands.specs.Holding.{staysBy, nextBy, nextOf, bandsOf}
 use Rattle.settle_phases.specs.Cycles.{cycleOf}
 use Rattle.settle_phases.specs.Order.{phaseOf, clearsOf, endsOf, judgedOf, restartsOf}
 use Rattle.settle_all.specs.Gather.{testsOf}
@@ -44,8 +45,8 @@ use Rattle.step_flags.specs.Edges.{edgesOf, seenOf}
 use Rattle.step_flags.specs.Expiry.{expiredOf, expiresOf}
 use Rattle.step_kinds.specs.Finish.{finishOf}
 use Rattle.step_kinds.specs.Plain.{setOf, writtenOf}
-use Rattle.step_turns.specs.Ranges.{profileInRange, sampleInRange, twoInRange}
-use Rattle.step_turns.specs.Turns.{heldProfile, turnOf}
+use Rattle.step_turns.specs.Ranges.{profileInRange, editionInRange, sampleInRange, twoInRange}
+use Rattle.step_turns.specs.Turns.{heldProfile, firstEdition, turnOf}
 use Rattle.step_event.specs.Clock.{observedOf, countedOf, clearedIf, timesOf, unitsOf}
 use Rattle.step_event.specs.Steps.{stepOf, turnedBy, changeOf, firstOf, movedOf, followedOf, observeOf, seenOn}
 use Rattle.laws_account.proofs.Powering.{poweredOf}
@@ -67,10 +68,10 @@ stays buffer after n place no-room = refl
 stays buffer after n place no-spelling = refl
 
 pub first-refuted : FirstRefuted
-unfolding forgets stopsAlways spills stepOf written spellEvent settleOf startState firstOf stateOk movedOf spellItems forcedOf latchesOf packBandOf joinedOf either bandOf settledOf testsOf startSettings profileOk settingsOk registersOk cycleOk watchdogOk sampleOk setOf observeOf faultOf baseOf shortOf lowOf packOverOf cycleOf phaseOf permittedOf suspendsOf belowRecharge taperOf chargeVoltageOf endingOf startVreg startIchg startVsysmin mayHold finishOf storeOf writeOf observedOf resetOf spell packClampOf inPack belowShare clearsOf endsOf judgedOf reachedOf cutOf regulatedOf heldOf wordsOk rangeOf edgesOf merged pulseOf writtenTo countedOf expiredOf clearedIf timesOf unitsOf resetRegisters groups restartsOf settingNumbers fieldsOf ranges seenOf recounted writtenRegisters takenBy gathered fields turnedBy changeOf followedOf writtenOf turnOf profileInRange sampleInRange twoInRange seenOn startWords restoredBy withoutOverrides putIn withWord putAt expiresOf
+unfolding forgets stopsAlways spills stepOf written spellEvent settleOf startState firstOf stateOk movedOf spellItems forcedOf latchesOf bandsOf nextOf nextBy staysBy joinedOf either bandOf bandBy marksOf settledOf testsOf startSettings profileOk settingsOk registersOk cycleOk watchdogOk sampleOk setOf observeOf faultOf baseOf shortOf lowOf packOverOf cycleOf phaseOf permittedOf suspendsOf belowRecharge taperOf chargeVoltageOf endingOf startVreg startIchg startVsysmin mayHold finishOf storeOf writeOf observedOf resetOf spell packClampOf inPack belowShare clearsOf endsOf judgedOf reachedOf cutOf regulatedOf heldOf wordsOk rangeOf edgesOf merged pulseOf writtenTo countedOf expiredOf clearedIf timesOf unitsOf resetRegisters groups restartsOf settingNumbers fieldsOf ranges seenOf recounted writtenRegisters takenBy gathered fields turnedBy changeOf followedOf writtenOf turnOf profileInRange editionInRange sampleInRange twoInRange seenOn startWords restoredBy withoutOverrides putIn withWord putAt expiresOf
 first-refuted = record {
   forgotten = λ p e d.
-      let s = On (poweredOf (heldProfile paper)) in
+      let s = On (poweredOf (heldProfile paper firstEdition)) in
       let same = subst (λ (step : Step). Answered s (step s (Set 15 0))) e (d .steps s (Set 15 0)) in
       differ 0 1 refl (ap (held (λ s. 1)) (same .refused (λ z. omega arith) .model));
   stopped = λ p e d.

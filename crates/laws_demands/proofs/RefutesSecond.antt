@@ -10,8 +10,9 @@ use Rattle.report_state.specs.Report.{fastCurrent, reportOf, chargeClampOf, inp
 use Rattle.settle_all.specs.Gather.{testsOf}
 use Rattle.settle_all.specs.Settle.{settleOf, forcedOf, settledOf}
 use Rattle.settle_bands.specs.Effect.{shareOf, cutOf, suspendsOf}
-use Rattle.settle_bands.specs.Thresholds.{bandOf}
-use Rattle.settle_bands.specs.Joined.{either, joinedOf, packBandOf}
+use Rattle.settle_bands.specs.Thresholds.{bandBy, marksOf, bandOf}
+use Rattle.settle_bands.specs.Joined.{either, joinedOf, packBand}
+use Rattle.settle_bands.specs.Holding.{staysBy, nextBy, nextOf, bandsOf}
 use Rattle.settle_levels.specs.Clamps.{baseOf, packClampOf, faultOf}
 use Rattle.settle_levels.specs.Comparators.{latchesOf, shortOf, lowOf, packOverOf}
 use Rattle.settle_levels.specs.Voltage.{chargeVoltageOf, belowRecharge, taperOf}
@@ -37,8 +38,8 @@ use Rattle.step_flags.specs.Edges.{edgesOf, seenOf}
 use Rattle.step_flags.specs.Expiry.{expiredOf, expiresOf}
 use Rattle.step_kinds.specs.Finish.{finishOf}
 use Rattle.step_kinds.specs.Plain.{setOf, writtenOf}
-use Rattle.step_turns.specs.Ranges.{profileInRange, sampleInRange, twoInRange}
-use Rattle.step_turns.specs.Turns.{turnOf, heldProfile, heldSample}
+use Rattle.step_turns.specs.Ranges.{profileInRange, editionInRange, sampleInRange, twoInRange}
+use Rattle.step_turns.specs.Turns.{firstEdition, turnOf, heldProfile, heldSample}
 use Rattle.laws_third.specs.Demand.{ranBy}
 use Rattle.base.specs.Refusals.{refusalNumber}
 use Rattle.base.specs.Writing.{Wrote}
@@ -71,8 +72,9 @@ use Rattle.laws_demands.specs.Wrong.{refusesAlways, reportsZeros, ignore
 use Rattle.laws_demands.specs.BasePoint.{seenAt, untilTaper, untilEnd, stepByBase}
 use Rattle.laws_demands.specs.EndTest.{neverRestarts}
 use Rattle.laws_demands.specs.Thermistors.{byFirst, bySecond, byWarmer, mixedAs}
+use Rattle.laws_demands.specs.Holding.{oneHold, keepsEntry, coldLate, leftNormal}
 use Rattle.laws_demands.specs.Slips.{sameWrite, scalesPrecharge, timesAfter, judgesCool, coolFirst}
-use Rattle.laws_demands.proofs.Days.{paper, sample, seen, sampled, powered, besides, coolDay, paperDay, day, of, differ, no-byte, one-byte}
+use Rattle.laws_demands.proofs.Days.{paper, sample, seen, sampled, powered, besides, coolBesideCold, coldLeft, coldBoth, movedUp, coolBoth, coldNow, coolSuspends, leftForCool, coolDay, paperDay, day, of, differ, no-byte, one-byte}
 use Rattle.laws_demands.proofs.Against.{as-ours, shown-as-ours}
 use Rattle.laws_demands.proofs.Only.{same-log}
 use Rattle.laws_demands.proofs.Parts.{parts-break}
@@ -88,11 +90,11 @@ report-breaks report breaks p e d = breaks (subst Reports e (d .reports))
 
 -- a state with a TS whose band isn't the one held: it may be held, and no run leaves it
 abbrev stray : State
-stray = withSample (poweredOf (heldProfile paper)) (heldSample (sample 0 0 0 80000 0) 80000)
+stray = withSample (poweredOf (heldProfile paper firstEdition)) (heldSample (sample 0 0 0 80000 0) 80000)
 
 -- a stage's time at the power-on, and after an observation with another stage's or its own before it
 invented : (s : Stage) (time : ℕ) → ¬ Moves (inventsTimes s time)
-unfolding inventsTimes stepOf reportOf fastCurrent chargeClampOf chargeVoltageOf inputLimitOf shareOf cutOf baseOf packClampOf inPack belowShare firstOf stateOk movedOf profileOk settingsOk registersOk cycleOk watchdogOk sampleOk setOf observeOf finishOf settledOf testsOf mayHold storeOf writeOf observedOf resetOf settleOf edgesOf merged pulseOf timesOf unitsOf packBandOf joinedOf either bandOf cycleOf phaseOf permittedOf suspendsOf belowRecharge taperOf endingOf flagsNumber startState heldOf wordsOk rangeOf writtenTo countedOf expiredOf clearedIf startSettings resetRegisters startVsysmin takenBy forcedOf latchesOf seenOf regulatedOf clearsOf endsOf judgedOf faultOf reachedOf settingNumbers fieldsOf ranges recounted writtenRegisters gathered startVreg startIchg shortOf lowOf packOverOf restartsOf fields turnedBy changeOf followedOf writtenOf turnOf profileInRange sampleInRange twoInRange seenOn ranBy startWords restoredBy withoutOverrides putIn withWord putAt expiresOf
+unfolding inventsTimes stepOf reportOf fastCurrent chargeClampOf chargeVoltageOf inputLimitOf shareOf cutOf baseOf packClampOf inPack belowShare firstOf stateOk movedOf profileOk settingsOk registersOk cycleOk watchdogOk sampleOk setOf observeOf finishOf settledOf testsOf mayHold storeOf writeOf observedOf resetOf settleOf edgesOf merged pulseOf timesOf unitsOf bandsOf nextOf nextBy staysBy joinedOf either bandOf bandBy marksOf cycleOf phaseOf permittedOf suspendsOf belowRecharge taperOf endingOf flagsNumber startState heldOf wordsOk rangeOf writtenTo countedOf expiredOf clearedIf startSettings resetRegisters startVsysmin takenBy forcedOf latchesOf seenOf regulatedOf clearsOf endsOf judgedOf faultOf reachedOf settingNumbers fieldsOf ranges recounted writtenRegisters gathered startVreg startIchg shortOf lowOf packOverOf restartsOf fields turnedBy changeOf followedOf writtenOf turnOf profileInRange editionInRange sampleInRange twoInRange seenOn ranBy startWords restoredBy withoutOverrides putIn withWord putAt expiresOf
 invented trickle time d =
     let y : time ≡ 0 = ap (of (λ s. s .cycle .trickle)) (as-ours _ d [] (PowerOn paper)) in
     let z : time ≡ 2000 = ap (of (λ s. s .cycle .trickle)) (as-ours _ d (day paper (seen 1000 3000 ∷ [])) (Observe (seen 2000 3000))) in
@@ -117,7 +119,7 @@ read-count p d bytes are short =
     ap counted (d .walks .walks bytes are short) ∙ ap (λ (l : Log). length (l .events)) (same-log (p .read) (d .reads) bytes are (suc (length bytes)) 0)
 
 counts-break : (count : ℕ) → WalkBreaks (inventsCounts count)
-unfolding inventsCounts wholeOf pageOf startWalk walkOf metBy lineOf logFrom recordAt readRecord readItems readNumber readGroups stepOf reportOf fastCurrent chargeClampOf chargeVoltageOf inputLimitOf shareOf cutOf baseOf packClampOf inPack belowShare firstOf stateOk movedOf profileOk settingsOk registersOk cycleOk watchdogOk sampleOk setOf observeOf finishOf settledOf testsOf mayHold storeOf writeOf observedOf resetOf settleOf edgesOf merged pulseOf timesOf unitsOf packBandOf joinedOf either bandOf cycleOf phaseOf permittedOf suspendsOf belowRecharge taperOf endingOf flagsNumber startState heldOf wordsOk rangeOf writtenTo countedOf expiredOf clearedIf startSettings resetRegisters startVsysmin takenBy forcedOf latchesOf seenOf regulatedOf clearsOf endsOf judgedOf faultOf reachedOf settingNumbers fieldsOf ranges recounted writtenRegisters gathered startVreg startIchg shortOf lowOf packOverOf restartsOf fields turnedBy changeOf followedOf writtenOf turnOf profileInRange sampleInRange twoInRange seenOn ranBy startWords restoredBy withoutOverrides putIn withWord putAt expiresOf
+unfolding inventsCounts wholeOf pageOf startWalk walkOf metBy lineOf logFrom recordAt readRecord readItems readNumber readGroups stepOf reportOf fastCurrent chargeClampOf chargeVoltageOf inputLimitOf shareOf cutOf baseOf packClampOf inPack belowShare firstOf stateOk movedOf profileOk settingsOk registersOk cycleOk watchdogOk sampleOk setOf observeOf finishOf settledOf testsOf mayHold storeOf writeOf observedOf resetOf settleOf edgesOf merged pulseOf timesOf unitsOf bandsOf nextOf nextBy staysBy joinedOf either bandOf bandBy marksOf cycleOf phaseOf permittedOf suspendsOf belowRecharge taperOf endingOf flagsNumber startState heldOf wordsOk rangeOf writtenTo countedOf expiredOf clearedIf startSettings resetRegisters startVsysmin takenBy forcedOf latchesOf seenOf regulatedOf clearsOf endsOf judgedOf faultOf reachedOf settingNumbers fieldsOf ranges recounted writtenRegisters gathered startVreg startIchg shortOf lowOf packOverOf restartsOf fields turnedBy changeOf followedOf writtenOf turnOf profileInRange editionInRange sampleInRange twoInRange seenOn ranBy startWords restoredBy withoutOverrides putIn withWord putAt expiresOf
 counts-break count p e d =
     let y : count ≡ 0 = ap (λ (w : Walker). counted (w [])) (sym e) ∙ read-count p d [] no-byte (omega arith) in
     let z : count ≡ 1 = ap (λ (w : Walker). counted (w (4 ∷ []))) (sym e) ∙ read-count p d (4 ∷ []) one-byte (omega arith) in
@@ -133,7 +135,7 @@ constant bytes d =
     differ 6 7 refl (ap left (sym (d .written Service (6 ∷ []) (paper-bytes .service) (0 ∷ []) (omega arith)) ∙ d .written Reset (7 ∷ []) (paper-bytes .reset) (0 ∷ []) (omega arith)))
 
 pub second-refuted : SecondRefuted
-unfolding modelOk stepByBase neverRestarts byFirst bySecond byWarmer mixedAs refusesAlways reportsZeros ignoresEvents worksOnce sameWrite scalesPrecharge timesAfter judgesCool coolFirst dropsStray stepOf reportOf fastCurrent chargeClampOf chargeVoltageOf inputLimitOf shareOf cutOf baseOf packClampOf inPack belowShare firstOf stateOk movedOf profileOk settingsOk registersOk cycleOk watchdogOk sampleOk setOf observeOf finishOf settledOf testsOf mayHold storeOf writeOf observedOf resetOf settleOf edgesOf merged pulseOf timesOf unitsOf packBandOf joinedOf either bandOf cycleOf phaseOf permittedOf suspendsOf belowRecharge taperOf endingOf flagsNumber startState heldOf wordsOk rangeOf writtenTo countedOf expiredOf clearedIf startSettings resetRegisters startVsysmin takenBy forcedOf latchesOf seenOf regulatedOf clearsOf endsOf judgedOf faultOf reachedOf settingNumbers fieldsOf ranges recounted writtenRegisters gathered startVreg startIchg shortOf lowOf packOverOf restartsOf fields turnedBy changeOf followedOf writtenOf turnOf profileInRange sampleInRange twoInRange seenOn ranBy startWords restoredBy withoutOverrides putIn withWord putAt expiresOf
+unfolding modelOk stepByBase neverRestarts byFirst bySecond byWarmer mixedAs oneHold keepsEntry coldLate leftNormal refusesAlways reportsZeros ignoresEvents worksOnce sameWrite scalesPrecharge timesAfter judgesCool coolFirst dropsStray stepOf reportOf fastCurrent chargeClampOf chargeVoltageOf inputLimitOf shareOf cutOf baseOf packClampOf inPack belowShare firstOf stateOk movedOf profileOk settingsOk registersOk cycleOk watchdogOk sampleOk setOf observeOf finishOf settledOf testsOf mayHold storeOf writeOf observedOf resetOf settleOf edgesOf merged pulseOf timesOf unitsOf bandsOf nextOf nextBy staysBy joinedOf either bandOf bandBy marksOf cycleOf phaseOf permittedOf suspendsOf belowRecharge taperOf endingOf flagsNumber startState heldOf wordsOk rangeOf writtenTo countedOf expiredOf clearedIf startSettings resetRegisters startVsysmin takenBy forcedOf latchesOf seenOf regulatedOf clearsOf endsOf judgedOf faultOf reachedOf settingNumbers fieldsOf ranges recounted writtenRegisters gathered startVreg startIchg shortOf lowOf packOverOf restartsOf fields turnedBy changeOf followedOf writtenOf turnOf profileInRange editionInRange sampleInRange twoInRange seenOn ranBy startWords restoredBy withoutOverrides putIn withWord putAt expiresOf
 second-refuted = record {
   refuses = λ r. step-breaks _ (λ d.
       let z : refusalNumber r ≡ 0 = ap (λ (o : Outcome). o .number) (as-ours _ d [] (PowerOn paper)) in
@@ -147,7 +149,7 @@ second-refuted = record {
   written = step-breaks _ (λ d. differ 3 2 refl (ap (of (λ s. s .registers .cells)) (as-ours _ d powered (Write 0x1B 0x43))));
   scaled = report-breaks _ (λ d. differ 24 120 refl (shown-as-ours _ d coolDay));
   timed = step-breaks _ (λ d. differ 2000 0 refl (ap (of (λ s. s .cycle .fast)) (as-ours _ d powered (Observe sampled))));
-  cooled = step-breaks _ (λ d. differ 3 1 refl (ap (of (λ s. bandNumber (s .band))) (as-ours _ d powered (Observe (sample 1000 7600 0 80000 0)))));
+  cooled = step-breaks _ (λ d. differ 3 1 refl (ap (of (λ s. bandNumber (packBand (s .bands)))) (as-ours _ d powered (Observe (sample 1000 7600 0 80000 0)))));
   point = step-breaks _ (λ d. differ 4 5 refl (ap (of (λ s. phaseNumber (s .phase))) (as-ours _ d (untilTaper 7890) (seenAt 2000 7890 50 40000))));
   restart = step-breaks _ (λ d. differ 5 3 refl (ap (of (λ s. phaseNumber (s .phase))) (as-ours _ d (untilEnd 7890) (seenAt 3000 7890 500 55000))));
   measured = step-breaks _ (broken .measured);
@@ -160,13 +162,17 @@ second-refuted = record {
   between = step-breaks _ (typed.broken .between);
   typed = step-breaks _ (typed.broken .typed);
   both = step-breaks _ (typed.broken .both);
-  firstTs = step-breaks _ (λ d. differ 3 7 refl (ap (of (λ s. bandNumber (s .band))) (as-ours _ d powered besides)));
-  secondTs = step-breaks _ (λ d. differ 4 7 refl (ap (of (λ s. bandNumber (s .band))) (as-ours _ d powered besides)));
-  warmer = step-breaks _ (λ d. differ 4 7 refl (ap (of (λ s. bandNumber (s .band))) (as-ours _ d powered besides)));
-  mixedNormal = step-breaks _ (λ d. differ 0 7 refl (ap (of (λ s. bandNumber (s .band))) (as-ours _ d powered besides)));
-  mixedCool = step-breaks _ (λ d. differ 3 7 refl (ap (of (λ s. bandNumber (s .band))) (as-ours _ d powered besides)));
-  mixedWarm = step-breaks _ (λ d. differ 4 7 refl (ap (of (λ s. bandNumber (s .band))) (as-ours _ d powered besides)));
+  firstTs = step-breaks _ (λ d. differ 3 7 refl (ap (of (λ s. bandNumber (packBand (s .bands)))) (as-ours _ d powered besides)));
+  secondTs = step-breaks _ (λ d. differ 4 7 refl (ap (of (λ s. bandNumber (packBand (s .bands)))) (as-ours _ d powered besides)));
+  warmer = step-breaks _ (λ d. differ 4 7 refl (ap (of (λ s. bandNumber (packBand (s .bands)))) (as-ours _ d powered besides)));
+  mixedNormal = step-breaks _ (λ d. differ 0 7 refl (ap (of (λ s. bandNumber (packBand (s .bands)))) (as-ours _ d powered besides)));
+  mixedCool = step-breaks _ (λ d. differ 3 7 refl (ap (of (λ s. bandNumber (packBand (s .bands)))) (as-ours _ d powered besides)));
+  mixedWarm = step-breaks _ (λ d. differ 4 7 refl (ap (of (λ s. bandNumber (packBand (s .bands)))) (as-ours _ d powered besides)));
   afterBits = parts-break .read readsAfterBits (format-refuted .secondAfterBits);
+  held = step-breaks _ (λ d. differ 1 3 refl (ap (of (λ s. bandNumber (packBand (s .bands)))) (as-ours _ d coolBesideCold coldLeft)));
+  entry = step-breaks _ (λ d. differ 1 3 refl (ap (of (λ s. bandNumber (packBand (s .bands)))) (as-ours _ d coldBoth movedUp)));
+  late = step-breaks _ (λ d. differ 3 1 refl (ap (of (λ s. bandNumber (packBand (s .bands)))) (as-ours _ d coolBoth coldNow)));
+  unjudged = step-breaks _ (λ d. differ 0 3 refl (ap (of (λ s. bandNumber (packBand (s .bands)))) (as-ours _ d coolSuspends leftForCool)));
   stray = step-breaks _ (λ d. differ 80000 55000 refl (ap (of (λ s. s .sample .ts)) (d .passes (On stray) refl (PowerOn paper))));
   otherCode = parts-break .read readsSwapped (format-refuted .otherCode);
   otherCodeWritten = parts-break .write writesSwapped (format-refuted .otherCodeWritten);

@@ -5,7 +5,7 @@ use mathlib.Core.List.{[]}
 use Rattle.log_event.specs.declared.Event.{Event}
 use Rattle.log_event.specs.declared.Event.the-variants.{PowerOnResistors}
 use Rattle.step_pins.specs.Codes.{codeOf}
-use Rattle.step_turns.specs.Ranges.{profileInRange, resistorsInRange}
+use Rattle.step_turns.specs.Ranges.{profileInRange, editionInRange, resistorsInRange}
 use Rattle.step_turns.specs.Turns.{turnOf}
 use Rattle.settle_all.specs.Settle.{forcedOf, settledOf, settleOf}
 use Rattle.state_start.specs.Values.{startState}
@@ -47,7 +47,7 @@ pub record Broken : Type 0 where
   pub matchless : ¬ Moves faultRefused
 
 pub broken : Broken
-unfolding byMeasured withoutEnds oneHigher oneLower widerIlim faultRefused stepOf turnedBy changeOf firstOf turnOf profileInRange resistorsInRange codeOf finishOf settleOf settledOf forcedOf startState ranBy
+unfolding byMeasured withoutEnds oneHigher oneLower widerIlim faultRefused stepOf turnedBy changeOf firstOf turnOf profileInRange editionInRange resistorsInRange codeOf finishOf settleOf settledOf forcedOf startState ranBy
 broken = record {
   measured = λ d. differ 1 0 refl (ap cellOf (as-ours _ d [] (at 4733 0)));
   ends = λ d. differ 0 3 refl (ap cellOf (as-ours _ d [] (at 8085 0)));

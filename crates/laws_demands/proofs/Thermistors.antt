@@ -11,7 +11,7 @@ use Rattle.laws_demands.specs.Thermistors.{EveryProductActsAsFive, Every
 use Rattle.laws_demands.proofs.Only.{only-ours}
 
 -- what holds of this product's step holds of every such product's
-of-ours : (said : Step → Type 0) → said stepOf → (p : Product) → FirstDemand p → SecondDemand p → said (p .step)
+pub of-ours : (said : Step → Type 0) → said stepOf → (p : Product) → FirstDemand p → SecondDemand p → said (p .step)
 of-ours said holds p first second =
     let steps : p .step ≡ stepOf = λ i m e. only-ours p first second .steps m e i in
     subst said (sym steps) holds

@@ -5,7 +5,7 @@ use mathlib.Core.List.{[], _∷_}
 use native.Mathlib.Omega.{arith}
 use Rattle.state_parts.specs.declared.state.Model.{Model}
 use Rattle.state_parts.specs.declared.state.Model.the-variants.{On}
-use Rattle.step_turns.specs.Turns.{heldProfile}
+use Rattle.step_turns.specs.Turns.{heldProfile, firstEdition}
 use Rattle.laws_account.proofs.Powering.{poweredOf}
 use Rattle.step_event.specs.Steps.{stepOf, firstOf, movedOf, observeOf, turnedBy, changeOf, followedOf, seenOn}
 use Rattle.state_settings.specs.Numbered.{heldOf, settingNumbers, storeOf}
@@ -29,8 +29,9 @@ use Rattle.step_flags.specs.Edges.{edgesOf, seenOf}
 use Rattle.state_parts.specs.Edges.{merged, pulseOf, flagsNumber}
 use Rattle.step_flags.specs.Expiry.{expiredOf, expiresOf}
 use Rattle.settle_levels.specs.Comparators.{latchesOf, shortOf, lowOf, packOverOf}
-use Rattle.settle_bands.specs.Thresholds.{bandOf}
-use Rattle.settle_bands.specs.Joined.{either, joinedOf, packBandOf}
+use Rattle.settle_bands.specs.Thresholds.{bandBy, marksOf, bandOf}
+use Rattle.settle_bands.specs.Joined.{either, joinedOf}
+use Rattle.settle_bands.specs.Holding.{staysBy, nextBy, nextOf, bandsOf}
 use Rattle.settle_all.specs.Gather.{testsOf}
 use Rattle.state_table.specs.Rows.{fieldsOf, fields}
 use Rattle.settle_permission.specs.Bits.{regulatedOf}
@@ -40,7 +41,7 @@ use Rattle.settle_permission.specs.Permission.{permittedOf}
 use Rattle.settle_permission.specs.Ending.{endingOf}
 use Rattle.settle_permission.specs.Limits.{reachedOf}
 use Rattle.step_turns.specs.Turns.{turnOf}
-use Rattle.step_turns.specs.Ranges.{profileInRange, sampleInRange, twoInRange}
+use Rattle.step_turns.specs.Ranges.{profileInRange, editionInRange, sampleInRange, twoInRange}
 use Rattle.state_fields.specs.Words.{putIn, withWord, putAt}
 use Rattle.state_runs.specs.Runs.{writeRunOf, badRun, keptRun, writtenRun, resets, serves}
 use Rattle.state_runs.specs.Registers.{settingsTaken, badRegister, registerTaken}
@@ -71,7 +72,7 @@ abbrev flagsOf : Outcome → ℕ
 flagsOf = of (λ s. s .flags)
 
 abbrev start : Model
-start = On (poweredOf (heldProfile paper))
+start = On (poweredOf (heldProfile paper firstEdition))
 
 abbrev iprechgOf : Model → ℕ
 iprechgOf = held (λ s. s .settings .iprechg)
@@ -85,7 +86,7 @@ pub record Broken : Type 0 where
 
 -- IPRECHG 200 and ITERM 640 at 0x0E: 9, and the first is taken. IPRECHG and ITERM there: the second is lost. TH2 code 2 and EN_TS 0 at 0x18, with TS 66,000: cool between the two bytes, and so a flag. Three cells and CELL_PIN's override in one byte at 0x1B. 0x21 after a power-on, whose flag is 0x20's.
 pub broken : Broken
-unfolding takesHalf keepsFront settlesBetween sameRun clearsBoth ranBy stepOf heldOf firstOf stateOk movedOf settingNumbers chargeVoltageOf profileOk settingsOk registersOk cycleOk watchdogOk sampleOk setOf observeOf baseOf inPack cutOf mayHold finishOf storeOf writeOf observedOf resetOf packClampOf settleOf startState wordsOk rangeOf edgesOf merged pulseOf writtenTo countedOf expiredOf clearedIf timesOf unitsOf startSettings resetRegisters forcedOf latchesOf packBandOf joinedOf either bandOf settledOf testsOf fieldsOf ranges seenOf recounted writtenRegisters takenBy gathered regulatedOf startVreg startIchg startVsysmin flagsNumber faultOf shortOf lowOf packOverOf cycleOf phaseOf permittedOf suspendsOf belowRecharge taperOf endingOf fields reachedOf belowShare clearsOf endsOf judgedOf restartsOf turnedBy changeOf followedOf writtenOf turnOf profileInRange sampleInRange twoInRange seenOn startWords restoredBy withoutOverrides putIn withWord putAt expiresOf runFrom readFlagsOf actedOf writeRunOf badRun keptRun writtenRun resets serves settingsTaken badRegister registerTaken byteOf hasSpelling allZero bytesOf flagByte valueBy
+unfolding takesHalf keepsFront settlesBetween sameRun clearsBoth ranBy stepOf heldOf firstOf stateOk movedOf settingNumbers chargeVoltageOf profileOk settingsOk registersOk cycleOk watchdogOk sampleOk setOf observeOf baseOf inPack cutOf mayHold finishOf storeOf writeOf observedOf resetOf packClampOf settleOf startState wordsOk rangeOf edgesOf merged pulseOf writtenTo countedOf expiredOf clearedIf timesOf unitsOf startSettings resetRegisters forcedOf latchesOf bandsOf nextOf nextBy staysBy joinedOf either bandOf bandBy marksOf settledOf testsOf fieldsOf ranges seenOf recounted writtenRegisters takenBy gathered regulatedOf startVreg startIchg startVsysmin flagsNumber faultOf shortOf lowOf packOverOf cycleOf phaseOf permittedOf suspendsOf belowRecharge taperOf endingOf fields reachedOf belowShare clearsOf endsOf judgedOf restartsOf turnedBy changeOf followedOf writtenOf turnOf profileInRange editionInRange sampleInRange twoInRange seenOn startWords restoredBy withoutOverrides putIn withWord putAt expiresOf runFrom readFlagsOf actedOf writeRunOf badRun keptRun writtenRun resets serves settingsTaken badRegister registerTaken byteOf hasSpelling allZero bytesOf flagByte valueBy
 broken = record {
   front = λ d. differ 200 120 refl (ap iprechgOf (d start (typed 0x0E 0x200A) .refused (λ z. omega arith) .model));
   half = λ d. differ 60 100 refl (ap itermOf (as-ours _ d powered (typed 0x0E 0x050A)));

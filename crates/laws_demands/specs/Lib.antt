@@ -14,6 +14,8 @@ pub mod EndTest
 pub mod BasePoint
 pub mod Soldered
 pub mod Thermistors
+pub mod Editions
+pub mod Holding
 pub mod Fives
 pub mod Typed
 pub mod Older

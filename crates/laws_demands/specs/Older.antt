@@ -7,12 +7,13 @@ use lib.ListN.{length}
 use Rattle.log_event.specs.Kinds.{KindRow, kindByte}
 use Rattle.log_event.specs.Events.{kindOf}
 use Rattle.log_event.specs.declared.Event.{Event}
-use Rattle.log_event.specs.declared.Event.the-variants.{PowerOnResistors, ObserveTwo}
+use Rattle.log_event.specs.declared.Event.the-variants.{PowerOnResistors, ObserveTwo, PowerOnEdition}
+use Rattle.log_event.specs.declared.spelled.SpelledEdition.{SpelledEdition}
 use Rattle.log_event.specs.declared.spelled.SpelledResistors.{SpelledResistors}
 use Rattle.log_event.specs.declared.spelled.SpelledTwo.{SpelledTwo}
 use Rattle.state_parts.specs.declared.state.Model.the-variants.{Off}
 use Rattle.laws_format.specs.Format.{Spells, SpellsAll}
-use Rattle.laws_format.specs.Older.{readsBy, Lacks, HasAll, baseKinds, oneTsKinds}
+use Rattle.laws_format.specs.Older.{readsBy, Lacks, HasAll, baseKinds, oneTsKinds, oneEditionKinds}
 use Rattle.laws_demands.specs.Product.{Step, Reporter}
 use Rattle.laws_demands.specs.Printed.{linesBy, printedBy}
 
@@ -32,3 +33,7 @@ BaseStopsAtNine = (r : SpelledResistors) → StopsAt baseKinds (PowerOnResistors
 -- and the program before 02, R-7, at an observation of two thermistors
 abbrev pub OneTsStopsAtTen : Type 0
 OneTsStopsAtTen = (t : SpelledTwo) → StopsAt oneTsKinds (ObserveTwo t)
+
+-- and the program before 02, R-8, at a power-on that says an edition
+abbrev pub OneEditionStopsAtEleven : Type 0
+OneEditionStopsAtEleven = (v : SpelledEdition) → StopsAt oneEditionKinds (PowerOnEdition v)

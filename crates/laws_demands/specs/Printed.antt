@@ -11,7 +11,7 @@ use Rattle.state_parts.specs.declared.phase.Phase.the-variants.{Idle}
 use Rattle.state_parts.specs.declared.state.Model.{Model}
 use Rattle.state_parts.specs.declared.state.Model.the-variants.{Off, On}
 use Rattle.log_event.specs.declared.Event.{Event}
-use Rattle.log_event.specs.declared.Event.the-variants.{PowerOn, Set, Write, TakeFlags, Observe, Service, Reset, PowerOnResistors, ObserveTwo, WriteRun, ReadFlags}
+use Rattle.log_event.specs.declared.Event.the-variants.{PowerOn, Set, Write, TakeFlags, Observe, Service, Reset, PowerOnResistors, ObserveTwo, PowerOnEdition, WriteRun, ReadFlags}
 use Rattle.log_record.specs.Records.{Met, met, refused, end}
 use Rattle.step_kinds.specs.Answers.{Outcome}
 use Rattle.report_state.specs.declared.answer.Report.{Report}
@@ -29,7 +29,7 @@ abbrev pub flagsIn : Model → ℕ
 flagsIn Off = noFlags
 flagsIn (On s) = s .flags
 
--- "kind": 1 power-on, 2 set, 3 write, 4 take flags, 5 observe, 6 service watchdog, 7 register reset; 02, R-5: 9 power-on by its resistors; R-7: 10 an observation of two thermistors; R-3: 8 a run of written bytes, 14 a read of a flag register
+-- "kind": 1 power-on, 2 set, 3 write, 4 take flags, 5 observe, 6 service watchdog, 7 register reset; 02, R-5: 9 power-on by its resistors; R-7: 10 an observation of two thermistors; R-8: 11 a power-on with an edition; R-3: 8 a run of written bytes, 14 a read of a flag register
 abbrev pub kindNumber : Event → ℕ
 kindNumber (PowerOn p) = 1
 kindNumber (Set number value) = 2
@@ -40,6 +40,7 @@ kindNumber Service = 6
 kindNumber Reset = 7
 kindNumber (PowerOnResistors r) = 9
 kindNumber (ObserveTwo t) = 10
+kindNumber (PowerOnEdition v) = 11
 kindNumber (WriteRun address raw) = 8
 kindNumber (ReadFlags address) = 14
 

@@ -3,7 +3,7 @@ use Prim.Native.Nat.{ℕ}
 use mathlib.Core.Path.{_≡_}
 use mathlib.Core.List.{List}
 use Rattle.base.specs.declared.refusal.Refusal.{Refusal}
-use Rattle.state_parts.specs.declared.band.Band.the-variants.{Normal, Cool, Warm}
+use Rattle.state_parts.specs.declared.band.TsBand.the-variants.{Normal, Cool, Warm}
 use Rattle.report_state.specs.Report.{reportOf}
 use Rattle.laws_account.specs.Cycles.{Stage}
 use Rattle.c_calls.specs.Promises.{Calls, RefusalLeaves}
@@ -23,6 +23,7 @@ use Rattle.laws_demands.specs.EndTest.{neverRestarts}
 use Rattle.laws_demands.specs.BasePoint.{stepByBase}
 use Rattle.laws_demands.specs.Soldered.{byMeasured, withoutEnds, oneHigher, oneLower, widerIlim, faultRefused}
 use Rattle.laws_demands.specs.Thermistors.{byFirst, bySecond, byWarmer, mixedAs}
+use Rattle.laws_demands.specs.Holding.{oneHold, keepsEntry, coldLate, leftNormal}
 use Rattle.laws_demands.specs.Typed.{takesHalf, keepsFront, settlesBetween, sameRun, clearsBoth}
 use Rattle.laws_demands.specs.Slips.{sameWrite, scalesPrecharge, timesAfter, judgesCool, halvesByNew, keepsTimes}
 
@@ -91,6 +92,11 @@ pub record SecondRefuted : Type 0 where
   pub mixedCool : StepBreaks (mixedAs Cool)
   pub mixedWarm : StepBreaks (mixedAs Warm)
   pub afterBits : ReadBreaks readsAfterBits
+  -- 02, R-8: one hold for both thermistors; the threshold of the entry kept; cold entered late; a left band that is normal without being judged
+  pub held : StepBreaks oneHold
+  pub entry : StepBreaks keepsEntry
+  pub late : StepBreaks coldLate
+  pub unjudged : StepBreaks leftNormal
   -- right after every run, and wrong on a model that passes but that no run leaves
   pub stray : StepBreaks dropsStray
   -- another byte code; a record read at place 0 alone; one number for whatever can't be read, and two that are swapped
@@ -134,6 +140,11 @@ pub record ThirdRefuted : Type 0 where
   pub mixedNormal : ¬ ThirdOfLists (mixedAs Normal) reportOf
   pub mixedCool : ¬ ThirdOfLists (mixedAs Cool) reportOf
   pub mixedWarm : ¬ ThirdOfLists (mixedAs Warm) reportOf
+  -- 02, R-8, "Demand 3's band includes the hold": two rest where a band was left, and two charge where one is entered, or judged again
+  pub held : ¬ ThirdOfLists oneHold reportOf
+  pub entry : ¬ ThirdOfLists keepsEntry reportOf
+  pub late : ¬ ThirdOfLists coldLate reportOf
+  pub unjudged : ¬ ThirdOfLists leftNormal reportOf
 
 -- and of what the operators may count on
 pub record OperatorsRefuted : Type 0 where

@@ -16,7 +16,7 @@ use Rattle.state_parts.specs.declared.state.State.{State}
 use Rattle.state_parts.specs.declared.state.Model.{Model}
 use Rattle.state_parts.specs.declared.state.Model.the-variants.{Off, On}
 use Rattle.settle_bands.specs.Thresholds.{th2Of, tsOff, jeitaOn, bandOf}
-use Rattle.settle_bands.specs.Joined.{joinedOf}
+use Rattle.settle_bands.specs.Joined.{packBand}
 use Rattle.settle_bands.specs.Effect.{shareOf}
 use Rattle.state_parts.specs.Stages.{charging}
 use Rattle.settle_all.specs.Gather.{testsOf}
@@ -64,7 +64,7 @@ sameWrite (On s) e = stepOf (On (asWritten (turnOf e) s)) e
 unfoldable pub scalesPrecharge : Reporter
 scalesPrecharge s = record {
   phase = s .phase;
-  current = currentIn (s .phase) (trickleCurrent (s .profile)) (s .settings .iprechg * shareOf (s .profile) (s .registers) (s .band) / 100) (fastCurrent (s .profile) (s .settings) (s .registers) (s .band));
+  current = currentIn (s .phase) (trickleCurrent (s .profile)) (s .settings .iprechg * shareOf (s .profile) (s .registers) (packBand (s .bands)) / 100) (fastCurrent (s .profile) (s .settings) (s .registers) (packBand (s .bands)));
   voltage = reportOf s .voltage;
   limit = reportOf s .limit;
 }
@@ -120,7 +120,7 @@ unfoldable pub keepsTimes : Step
 keepsTimes Off e = stepOf Off e
 keepsTimes (On s) e = withModel (stepOf (On s) e) (keptOn s (stepOf (On s) e .model))
 
--- this product's step, but that it settles by another band
+-- this product's step, but that it settles by other bands
 abbrev pub stepBanded : Bander → Step
 stepBanded band m e = endedBy (finishBy (settleWith band testsOf)) m (changeOf m (turnOf e))
 
@@ -129,4 +129,4 @@ unfoldable pub coolFirst : Profile → Registers → ℕ → TsBand
 coolFirst p g ts = pick (tsOff g) Normal (pick (jeitaOn g && leb (th2Of p g) ts) Cool (bandOf p g ts))
 
 unfoldable pub judgesCool : Step
-judgesCool m e = stepBanded (λ p g x. joinedOf (coolFirst p g (x .ts)) (coolFirst p g (x .secondts))) m e
+judgesCool m e = stepBanded (λ p g x held. record { first = coolFirst p g (x .ts); second = coolFirst p g (x .secondts) }) m e

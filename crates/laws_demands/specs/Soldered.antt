@@ -5,12 +5,12 @@ use mathlib.Core.Bool.{_&&_, _||_}
 use lib.Dec.{leb, ltb, eqb}
 use Rattle.base.specs.Pick.{pick}
 use Rattle.log_event.specs.declared.Event.{Event}
-use Rattle.log_event.specs.declared.Event.the-variants.{PowerOn, Set, Write, TakeFlags, Observe, Service, Reset, PowerOnResistors, ObserveTwo, WriteRun, ReadFlags}
+use Rattle.log_event.specs.declared.Event.the-variants.{PowerOn, Set, Write, TakeFlags, Observe, Service, Reset, PowerOnResistors, ObserveTwo, PowerOnEdition, WriteRun, ReadFlags}
 use Rattle.log_event.specs.declared.spelled.SpelledResistors.{SpelledResistors}
 use Rattle.step_pins.specs.Codes.{resistors, distance, matches, lowestBy, codeOf}
 use Rattle.step_turns.specs.Coded.{codedBy, codedOf}
 use Rattle.step_turns.specs.Ranges.{resistorsInRange}
-use Rattle.step_turns.specs.Turns.{heldProfile, opensWith, turnOf}
+use Rattle.step_turns.specs.Turns.{heldProfile, opensWith, firstEdition, turnOf}
 use Rattle.step_turns.specs.declared.turn.Turn.{Turn}
 use Rattle.step_turns.specs.declared.turn.Turn.the-variants.{Opens, OpensOutside}
 use Rattle.step_event.specs.Steps.{turnedBy}
@@ -35,6 +35,7 @@ otherTurn other Service = turnOf Service
 otherTurn other Reset = turnOf Reset
 otherTurn other (PowerOnResistors r) = other r
 otherTurn other (ObserveTwo t) = turnOf (ObserveTwo t)
+otherTurn other (PowerOnEdition v) = turnOf (PowerOnEdition v)
 otherTurn other (WriteRun address raw) = turnOf (WriteRun address raw)
 otherTurn other (ReadFlags address) = turnOf (ReadFlags address)
 
@@ -43,7 +44,7 @@ stepSoldered other m e = turnedBy m (otherTurn other e)
 
 -- the codes by another rule
 abbrev pub withCodes : (ℕ → ℕ) → SpelledResistors → Turn
-withCodes code r = pick (resistorsInRange r) (opensWith (codedBy code r)) OpensOutside
+withCodes code r = pick (resistorsInRange r) (opensWith (codedBy code r) firstEdition) OpensOutside
 
 -- 2% of what was measured
 unfoldable pub byMeasured : Step
@@ -62,7 +63,7 @@ oneLower = stepSoldered (withCodes (lowestBy matches 0 resistors))
 
 -- the ILIM ohms up to 100,000 too
 unfoldable pub widerIlim : Step
-widerIlim = stepSoldered (λ r. pick (resistorsInRange r && leb (r .ohms) 100000) (Opens (heldProfile (codedOf r))) (turnOf (PowerOnResistors r)))
+widerIlim = stepSoldered (λ r. pick (resistorsInRange r && leb (r .ohms) 100000) (Opens (heldProfile (codedOf r) firstEdition)) (turnOf (PowerOnResistors r)))
 
 -- a resistor that matches none refused, in place of a pin fault
 unfoldable pub faultRefused : Step

@@ -3,7 +3,7 @@
 use Prim.Native.Nat.{ℕ}
 use mathlib.Core.List.{List, [], _∷_, _++_}
 use lib.ListN.{length, take, drop}
-use mathlib.Core.Bool.{Bool, true, false}
+use mathlib.Core.Bool.{Bool, true, false, _&&_}
 use lib.Dec.{eqb}
 use Rattle.base.specs.Pick.{pick}
 use Rattle.base.specs.Refusals.{refusalNumber}
@@ -22,8 +22,8 @@ use Rattle.state_parts.specs.declared.cycle.Cycle.{Cycle}
 use Rattle.step_turns.specs.Turns.{turnOf}
 use Rattle.step_turns.specs.declared.turn.Turn.{Turn}
 use Rattle.step_turns.specs.declared.turn.Turn.the-variants.{Opens, Follows, OpensOutside, FollowsOutside}
-use Rattle.settle_bands.specs.Joined.{packBandOf}
-use Rattle.state_parts.specs.Numbers.{bandNumber}
+use Rattle.settle_bands.specs.Joined.{isBand}
+use Rattle.settle_bands.specs.Holding.{bandsOf}
 use Rattle.laws_account.specs.Cycles.{Stage, trickle, precharge, fast}
 use Rattle.laws_format.specs.Readers.{Reader, Writer}
 use Rattle.laws_demands.specs.Product.{Step, Reporter, Walker}
@@ -87,13 +87,15 @@ inventsCounts count bytes = record { lines = ourWalk bytes .lines; last = counti
 unfoldable pub writesConstant : List ℕ → Writer
 writesConstant bytes e buffer = (written bytes buffer, put bytes buffer)
 
--- throws every event away on a state whose band isn't that of its sample: after every run it is
-abbrev pub fresh : State → Bool
-fresh s = eqb (bandNumber (s .band)) (bandNumber (packBandOf (s .profile) (s .registers) (s .sample)))
+-- throws every event away on a state whose bands would be judged otherwise again: after every run they wouldn't
+abbrev pub judgedSo : State → Bool
+judgedSo s =
+    let again = bandsOf (s .profile) (s .registers) (s .sample) (s .bands) in
+    isBand (s .bands .first) (again .first) && isBand (s .bands .second) (again .second)
 
 unfoldable pub dropsStray : Step
 dropsStray Off e = stepOf Off e
-dropsStray (On s) e = pick (fresh s) (stepOf (On s) e) (withModel (stepOf (On s) e) (On s))
+dropsStray (On s) e = pick (judgedSo s) (stepOf (On s) e) (withModel (stepOf (On s) e) (On s))
 
 -- refuses every second power-on
 abbrev pub opens : Turn → Bool

@@ -11,7 +11,7 @@ use Rattle.log_raw.specs.Raw.{spellRaw, hasSpelling, allZero}
 use Rattle.log_raw.specs.Struct.{rawOf}
 use Rattle.log_raw.specs.declared.RawBytes.{RawBytes}
 use Rattle.log_event.specs.Items.{Item, num, raw, values}
-use Rattle.log_event.specs.declared.Event.the-variants.{PowerOn, Set, Write, TakeFlags, Observe, Service, Reset, WriteRun, PowerOnResistors, ObserveTwo, ReadFlags}
+use Rattle.log_event.specs.declared.Event.the-variants.{PowerOn, Set, Write, TakeFlags, Observe, Service, Reset, WriteRun, PowerOnResistors, ObserveTwo, PowerOnEdition, ReadFlags}
 use Rattle.log_record.specs.Items.{spellItems}
 use Rattle.log_record.specs.Records.{spellEvent}
 use Rattle.laws_format.specs.Format.{Listed, Spells, AllSmall, last, none, one, below-zero}
@@ -53,7 +53,7 @@ paper-bytes = record {
   fourAndZero = zero-last (0x80 ∷ 0x80 ∷ 0x80 ∷ 0x80 ∷ []) [] (search needs) (omega arith) (omega arith);
   kindsListed = kinds-listed;
   kindZero = no-kind 0 [] (kinds-listed 0 .1 (inl refl));
-  kindEleven = no-kind 11 [] (kinds-listed 11 .1 (inr (inl (omega arith, omega arith))));
+  kindTwelve = no-kind 12 [] (kinds-listed 12 .1 (inr (inl (omega arith, omega arith))));
   set = spelled (Set 1 8400) (record { fits = search needs; sound = refl });
   write = spelled (Write 0x1B 0x42) (record { fits = search needs; sound = refl });
   takeFlags = spelled TakeFlags (record { fits = tt; sound = refl });
@@ -61,6 +61,7 @@ paper-bytes = record {
   reset = spelled Reset (record { fits = tt; sound = refl });
   powerOnResistors = spelled (PowerOnResistors _) (record { fits = search needs; sound = refl });
   observeTwo = spelled (ObserveTwo _) (record { fits = search needs; sound = refl });
+  powerOnEdition = spelled (PowerOnEdition _) (record { fits = search needs; sound = refl });
   writeRun = spelled (WriteRun _ _) (record { fits = (search needs, (record { low = search needs; small = search needs }, tt)); sound = refl });
   readFlags = spelled (ReadFlags _) (record { fits = search needs; sound = refl });
   noBytes = at-length 5 0 _ (other-length 0 (0x00 ∷ []) [] (omega arith) (last 0 (omega arith)) (inl refl));

@@ -18,13 +18,13 @@ use Rattle.log_event.specs.Items.{Item, num, raw, Fits, AllFit, sound, allSound
 use Rattle.log_event.specs.Kinds.{kindByte}
 use Rattle.log_event.specs.Events.{kindOf, itemsOf}
 use Rattle.log_event.specs.declared.Event.{Event}
-use Rattle.log_event.specs.declared.Event.the-variants.{PowerOn, Set, Write, TakeFlags, Observe, Service, Reset, WriteRun, PowerOnResistors, ObserveTwo, ReadFlags}
+use Rattle.log_event.specs.declared.Event.the-variants.{PowerOn, Set, Write, TakeFlags, Observe, Service, Reset, WriteRun, PowerOnResistors, ObserveTwo, PowerOnEdition, ReadFlags}
 use Rattle.log_record.specs.Items.{spellItem, spellItems}
 use Rattle.log_record.specs.Records.{spellEvent}
 use Rattle.log_record.specs.Promises.{Spellable}
 use Rattle.log_record.proofs.ItemLaws.{all-sound}
 use Rattle.log_record.proofs.RecordLaws.{spellings-differ}
-use Rattle.laws_format.specs.Format.{Groups, last, more, largest, Stand, none, one, run, Ibat, from-zero, below-zero, Listed, power-on, set, write, take-flags, observe, service, reset, write-run, power-on-resistors, observe-two, read-flags, Spells, kind-then-numbers, AllSmall, AllSpelt, InRange, Signed32, SpelledOnce}
+use Rattle.laws_format.specs.Format.{Groups, last, more, largest, Stand, none, one, run, Ibat, from-zero, below-zero, Listed, power-on, set, write, take-flags, observe, service, reset, write-run, power-on-resistors, observe-two, power-on-edition, read-flags, Spells, kind-then-numbers, AllSmall, AllSpelt, InRange, Signed32, SpelledOnce}
 use Rattle.laws_format.proofs.Raws.{spelled-raw, holds-counted}
 
 -- ---- groups
@@ -126,6 +126,7 @@ listed-is reset = (refl, refl)
 listed-is (write-run address held) = (refl, refl)
 listed-is (power-on-resistors r) = (refl, refl)
 listed-is (observe-two t ibat i) = (refl, rw (ibat-is i))
+listed-is (power-on-edition p edition) = (refl, refl)
 listed-is (read-flags address) = (refl, refl)
 
 pub listed : (e : Event) → Listed e (kindByte (kindOf e)) (itemsOf e)
@@ -139,6 +140,7 @@ listed Reset = reset
 listed (WriteRun address held) = write-run address held
 listed (PowerOnResistors r) = power-on-resistors r
 listed (ObserveTwo t) = observe-two t (loggedOf (t .sample .ibat)) (ibat-logged (t .sample .ibat))
+listed (PowerOnEdition v) = power-on-edition (v .profile) (v .edition)
 listed (ReadFlags address) = read-flags address
 
 -- ---- events

@@ -11,7 +11,7 @@ use Rattle.log_event.specs.declared.Event.{Event}
 use Rattle.log_event.proofs.Remaking.{row-of-its-own}
 use Rattle.log_record.specs.Records.{met, ofRow, placed, readRecord, recordAt}
 use Rattle.laws_format.specs.Format.{Spells, kind-then-numbers}
-use Rattle.laws_format.specs.Older.{readsBy, Has, EveryOldReader, BaseLacksNine, LackRuns, LackTwo}
+use Rattle.laws_format.specs.Older.{readsBy, Has, EveryOldReader, BaseLacksNine, LackRuns, LackTwo, LackEdition}
 use Rattle.laws_format.proofs.Formats.{listed-is}
 use Rattle.laws_format.proofs.Keeping.{our-reads}
 
@@ -44,3 +44,6 @@ lack-runs = record { base-eight = refl; base-fourteen = refl; eight = refl; four
 
 pub lack-two : LackTwo
 lack-two = record { base = refl; earlier = refl; ten = refl }
+
+pub lack-edition : LackEdition
+lack-edition = record { base = refl; earlier = refl; oneTs = refl; eleven = refl }

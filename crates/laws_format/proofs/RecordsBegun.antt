@@ -14,7 +14,7 @@ use Rattle.log_event.specs.Kinds.{kindByte, shapesOf}
 use Rattle.log_event.specs.Events.{kindOf}
 use Rattle.log_event.specs.declared.Event.{Event}
 use Rattle.log_event.specs.declared.kinds.Kind.{Kind}
-use Rattle.log_event.specs.declared.kinds.Kind.the-variants.{PowerOn, Set, Write, TakeFlags, Observe, Service, Reset, WriteRun, PowerOnResistors, ObserveTwo, ReadFlags}
+use Rattle.log_event.specs.declared.kinds.Kind.the-variants.{PowerOn, Set, Write, TakeFlags, Observe, Service, Reset, WriteRun, PowerOnResistors, ObserveTwo, PowerOnEdition, ReadFlags}
 use Rattle.log_event.proofs.Remaking.{every-event}
 use Rattle.laws_format.specs.Format.{Stand, none, one, run, Listed, Spells, kind-then-numbers}
 use Rattle.laws_format.specs.Unreadable.{NoRecord, no-kind, stopped}
@@ -37,6 +37,7 @@ roomy Reset = tt
 roomy WriteRun = search needs
 roomy PowerOnResistors = search needs
 roomy ObserveTwo = search needs
+roomy PowerOnEdition = search needs
 roomy ReadFlags = search needs
 
 roomy-rest : (hs gs : List Shape) → AllRoomy (hs ++ gs) → AllRoomy gs

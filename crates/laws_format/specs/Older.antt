@@ -1,4 +1,4 @@
--- A program by an older table of kinds, and a log that a newer one wrote. 02, R-9: "An old program stops there with 4"; so it does at R-5's kind 9, at R-3's 8 and 14, and at R-7's 10. It is said of every table and of every
+-- A program by an older table of kinds, and a log that a newer one wrote. 02, R-9: "An old program stops there with 4"; so it does at R-5's kind 9, at R-3's 8 and 14, at R-7's 10, and at R-8's 11. It is said of every table and of every
 -- kind that the table lacks.
 use Prim.Native.Nat.{ℕ, _+_}
 use mathlib.Core.Path.{_≡_}
@@ -8,7 +8,7 @@ use lib.ListN.{length}
 use Rattle.log_event.specs.Kinds.{KindRow, kindByte, kindRow, kindRows, rowFor}
 use Rattle.log_event.specs.Events.{kindOf}
 use Rattle.log_event.specs.declared.Event.{Event}
-use Rattle.log_event.specs.declared.kinds.Kind.the-variants.{PowerOn, Set, Write, TakeFlags, Observe, Service, Reset, WriteRun, PowerOnResistors, ReadFlags}
+use Rattle.log_event.specs.declared.kinds.Kind.the-variants.{PowerOn, Set, Write, TakeFlags, Observe, Service, Reset, WriteRun, PowerOnResistors, ObserveTwo, ReadFlags}
 use Rattle.log_record.specs.Records.{met, refused, recordAt}
 use Rattle.laws_format.specs.Format.{Spells}
 use Rattle.laws_format.specs.Readers.{Reader}
@@ -64,3 +64,13 @@ pub record LackTwo : Type 0 where
   pub base : Lacks baseKinds 10
   pub earlier : Lacks earlierKinds 10
   pub ten : Lacks oneTsKinds 10
+
+-- the table before 02, R-8, with R-7's: none of the four has 11
+abbrev pub oneEditionKinds : List KindRow
+oneEditionKinds = kindRows (PowerOn ∷ Set ∷ Write ∷ TakeFlags ∷ Observe ∷ Service ∷ Reset ∷ WriteRun ∷ PowerOnResistors ∷ ObserveTwo ∷ ReadFlags ∷ [])
+
+pub record LackEdition : Type 0 where
+  pub base : Lacks baseKinds 11
+  pub earlier : Lacks earlierKinds 11
+  pub oneTs : Lacks oneTsKinds 11
+  pub eleven : Lacks oneEditionKinds 11

@@ -4,7 +4,7 @@ use mathlib.Core.Path.{_≡_}
 use mathlib.Core.List.{List, [], _∷_}
 use mathlib.Core.Logic.{_↔_, _⊎_}
 use lib.IntN.{pos, negsuc}
-use Rattle.log_event.specs.declared.Event.the-variants.{PowerOn, Set, Write, TakeFlags, Observe, Service, Reset, WriteRun, PowerOnResistors, ObserveTwo, ReadFlags}
+use Rattle.log_event.specs.declared.Event.the-variants.{PowerOn, Set, Write, TakeFlags, Observe, Service, Reset, WriteRun, PowerOnResistors, ObserveTwo, PowerOnEdition, ReadFlags}
 use Rattle.laws_format.specs.Format.{Groups, Ibat, NoKind, Spells}
 use Rattle.laws_format.specs.Unreadable.{NoNumber, NoRecord}
 use Rattle.laws_format.specs.Readers.{SmallNumbers}
@@ -30,10 +30,10 @@ pub record PaperBytes : Type 0 where
   pub fiveHigh : NoNumber 3 (0x80 ∷ 0x80 ∷ 0x80 ∷ 0x80 ∷ 0x80 ∷ []) 4
   pub fourHigh : NoNumber 1 (0xFF ∷ 0xFF ∷ 0xFF ∷ 0xFF ∷ []) 4
   pub fourAndZero : NoNumber 2 (0x80 ∷ 0x80 ∷ 0x80 ∷ 0x80 ∷ 0x00 ∷ []) 4
-  -- "kind not 1-7", nor 02's 8, 9, 10 and 14
-  pub kindsListed : (b : ℕ) → NoKind b ↔ ((b ≡ 0) ⊎ (((10 < b) × (b < 14)) ⊎ (14 < b)))
+  -- "kind not 1-7", nor 02's 8 to 11 and 14
+  pub kindsListed : (b : ℕ) → NoKind b ↔ ((b ≡ 0) ⊎ (((11 < b) × (b < 14)) ⊎ (14 < b)))
   pub kindZero : NoRecord 4 (0x00 ∷ []) 0
-  pub kindEleven : NoRecord 4 (0x0B ∷ []) 0
+  pub kindTwelve : NoRecord 4 (0x0C ∷ []) 0
   -- a record of each other kind: setting 1 to 8,400, byte 0x42 to address 0x1B, and those with no numbers
   pub set : Spells (Set 1 8400) (0x02 ∷ 0x01 ∷ 0xD0 ∷ 0x41 ∷ [])
   pub write : Spells (Write 0x1B 0x42) (0x03 ∷ 0x1B ∷ 0x42 ∷ [])
@@ -48,6 +48,10 @@ pub record PaperBytes : Type 0 where
   pub observeTwo : Spells
       (ObserveTwo (record { sample = record { stamp = 1000; input = 12000; pack = 7600; ibat = pos 0; ts = 55000; bits = 7 }; second = 40000 }))
       (0x0A ∷ 0xE8 ∷ 0x07 ∷ 0xE0 ∷ 0x5D ∷ 0xB0 ∷ 0x3B ∷ 0x00 ∷ 0xD8 ∷ 0xAD ∷ 0x03 ∷ 0xC0 ∷ 0xB8 ∷ 0x02 ∷ 0x07 ∷ [])
+  -- 02, R-8: the example's power-on with a watchdog of 160 seconds, and with the second edition behind it
+  pub powerOnEdition : Spells
+      (PowerOnEdition (record { profile = record { cell = 2; vchg = 5; ichg = 4; ohms = 0; stamp = 0; ceiling = 4500; trickle = 3600; precharge = 7200; fast = 36000; watchdog = 160 }; edition = 2 }))
+      (0x0B ∷ 0x02 ∷ 0x05 ∷ 0x04 ∷ 0x00 ∷ 0x00 ∷ 0x94 ∷ 0x23 ∷ 0x90 ∷ 0x1C ∷ 0xA0 ∷ 0x38 ∷ 0xA0 ∷ 0x99 ∷ 0x02 ∷ 0xA0 ∷ 0x01 ∷ 0x02 ∷ [])
   -- 02, R-3: bytes 0x42 and 0x00 to addresses 0x1B and 0x1C; the flags of 0x20
   pub writeRun : Spells
       (WriteRun 0x1B (record { length = 2; w0 = 0x42; w1 = 0; w2 = 0; w3 = 0; w4 = 0; w5 = 0; w6 = 0; w7 = 0 }))

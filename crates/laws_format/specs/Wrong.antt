@@ -4,7 +4,7 @@ use lib.ListN.{length}
 use lib.Dec.{leb, eqb}
 use Rattle.base.specs.Pick.{pick}
 use Rattle.log_event.specs.declared.Event.{Event}
-use Rattle.log_event.specs.declared.Event.the-variants.{PowerOn, Set, Write, TakeFlags, Observe, Service, Reset, WriteRun, PowerOnResistors, ObserveTwo, ReadFlags}
+use Rattle.log_event.specs.declared.Event.the-variants.{PowerOn, Set, Write, TakeFlags, Observe, Service, Reset, WriteRun, PowerOnResistors, ObserveTwo, PowerOnEdition, ReadFlags}
 use Rattle.log_event.specs.declared.spelled.SpelledTwo.{SpelledTwo}
 use Rattle.log_record.specs.Records.{Met, met, refused, end}
 use Rattle.laws_format.specs.Readers.{Reader, Writer, Reads, Writes}
@@ -23,6 +23,7 @@ swapped Reset = Service
 swapped (WriteRun a b) = WriteRun a b
 swapped (PowerOnResistors r) = PowerOnResistors r
 swapped (ObserveTwo t) = ObserveTwo t
+swapped (PowerOnEdition v) = PowerOnEdition v
 swapped (ReadFlags a) = ReadFlags a
 
 -- what a reader answers, with another event or with another number for a refusal
@@ -54,6 +55,7 @@ afterBits Reset = Reset
 afterBits (WriteRun a b) = WriteRun a b
 afterBits (PowerOnResistors r) = PowerOnResistors r
 afterBits (ObserveTwo t) = ObserveTwo (lastSecond t)
+afterBits (PowerOnEdition v) = PowerOnEdition v
 afterBits (ReadFlags a) = ReadFlags a
 
 abbrev pub readsAfterBits : Reader

@@ -16,7 +16,7 @@ use Rattle.log_event.specs.Items.{nums}
 use Rattle.log_record.specs.Items.{spellItems}
 use Rattle.log_record.specs.Records.{spellEvent}
 use Rattle.log_record.specs.Logs.{spellLog}
-use Rattle.step_turns.specs.Ranges.{profileInRange}
+use Rattle.step_turns.specs.Ranges.{profileInRange, editionInRange}
 use Rattle.step_turns.specs.Turns.{turnOf}
 use Rattle.c_image.specs.Images.{zeros, imageOf}
 use Rattle.c_image.proofs.ImageLaws.{loads-back}
@@ -61,7 +61,7 @@ unfolding pastOf
 left-none = refl
 
 left-some : (r : Run) × (pastOf none (power ∷ []) ≡ some r)
-unfolding pastOf nextOf turnOf profileInRange
+unfolding pastOf nextOf turnOf profileInRange editionInRange
 left-some = (_, refl)
 
 -- one image can't be left both by nothing and by a power-on
@@ -76,12 +76,12 @@ module _ (calls : Calls) (third : ThirdOfImages calls) (image : List ℕ) (by-no
 -- the image of a model that is off, and the log from its start on
 module _ (calls : Calls) where
   abbrev start : List ℕ
-  start = calls .off (zeros 224) .bytes
+  start = calls .off (zeros 232) .bytes
 
   unstored : ¬ ThirdOfImages (playsUnstored calls)
   unstored third =
-      clash (playsUnstored calls) third start (off (zeros 224) refl)
-      (play [] start (off (zeros 224) refl) first bytes-there 0 (zeros 28) (power ∷ []) (played power 16 stands-there (omega arith)))
+      clash (playsUnstored calls) third start (off (zeros 232) refl)
+      (play [] start (off (zeros 232) refl) first bytes-there 0 (zeros 28) (power ∷ []) (played power 16 stands-there (omega arith)))
 
   abbrev at : ℕ → Ending
   at place = record { code = 0; told = place; next = place }
@@ -97,7 +97,7 @@ module _ (calls : Calls) where
   cut log es bs g e = ap (λ fs. calls .replay start (spellLog (butLast fs)) 0 .bytes) (all-read bs g) ∙ ap (λ fs. calls .replay start (spellLog fs) 0 .bytes) e
 
   moved-by : (log : List ℕ) (es : List Event) {ending : Ending} → Bytes log → ReplayGives log 0 es ending → butLast es ≡ [] → Moved (replaysButLast calls) es (calls .replay start (spellLog []) 0 .bytes)
-  moved-by log es bs g e = subst (λ image. Moved (replaysButLast calls) es image) (cut log es bs g e) (replay [] start (off (zeros 224) refl) log bs 0 es _ g)
+  moved-by log es bs g e = subst (λ image. Moved (replaysButLast calls) es image) (cut log es bs g e) (replay [] start (off (zeros 232) refl) log bs 0 es _ g)
 
   lost : ¬ ThirdOfImages (replaysButLast calls)
   lost third =

@@ -5,9 +5,9 @@ use mathlib.Core.List.{List, [], _∷_, _++_}
 use native.Mathlib.Omega.{arith}
 use lib.ListN.{getD}
 use Rattle.base.specs.Pick.{bitOf}
-use Rattle.state_parts.specs.Numbers.{phaseNumber, bandNumber}
-use Rattle.state_parts.specs.declared.band.Band.{Band}
-use Rattle.state_parts.specs.declared.band.Band.the-variants.{Normal, Cold, Hot, Cool, Warm, Mixed}
+use Rattle.state_parts.specs.Numbers.{phaseNumber, tsBandNumber}
+use Rattle.state_parts.specs.declared.band.TsBand.{TsBand}
+use Rattle.state_parts.specs.declared.band.TsBand.the-variants.{Normal, Cold, Hot, Cool, Warm}
 use Rattle.state_parts.specs.declared.latches.Latches.{Latches}
 use Rattle.state_parts.specs.declared.phase.Phase.{Phase}
 use Rattle.state_parts.specs.declared.phase.Phase.the-variants.{Idle, Trickle, Precharge, Fast, Taper, Done, Suspended, Fault}
@@ -33,13 +33,12 @@ phase-fits Done = omega arith
 phase-fits Suspended = omega arith
 phase-fits Fault = omega arith
 
-band-fits : (b : Band) → bandNumber b < 2 ^ 32
+band-fits : (b : TsBand) → tsBandNumber b < 2 ^ 32
 band-fits Normal = omega arith
 band-fits Cold = omega arith
 band-fits Hot = omega arith
 band-fits Cool = omega arith
 band-fits Warm = omega arith
-band-fits Mixed = omega arith
 
 -- each of the numbers, and 0 behind them
 pub each : (ns : List ℕ) → AllWords ns → (i : ℕ) → getD ns i 0 < 2 ^ 32
@@ -65,7 +64,7 @@ latches-fit : (l : Latches) → Fits (latchesNumbers l)
 latches-fit l = fits (omega (arith, bit-fits (l .inputok), bit-fits (l .inputover), bit-fits (l .short), bit-fits (l .low), bit-fits (l .packover)))
 
 judged-fit : (s : State) → s .flags < 2 ^ 32 → Fits (judgedNumbers s)
-judged-fit s h = fits (omega (arith, phase-fits (s .phase), band-fits (s .band), h))
+judged-fit s h = fits (omega (arith, phase-fits (s .phase), band-fits (s .bands .first), band-fits (s .bands .second), h))
 
 -- the parts that hold more than tests and cases
 pub record Fitting (s : State) : Type 0 where

@@ -68,12 +68,12 @@ module _ (all : List ℕ) (words : AllWords all) where
   made-fits : Fitting (stateFrom all)
   unfolding stateFrom settingNumbers
   made-fits = record {
-    profile = fits (word 0, (word 1, (word 2, (word 3, (word 4, (word 5, (word 6, (word 7, (word 8, (word 9, tt))))))))));
-    settings = fits (word 10, (word 11, (word 12, (word 13, (word 14, (word 15, (word 16, (word 17, (bit 18, (bit 19, (bit 20, (bit 21, (bit 22, (word 23, tt))))))))))))));
-    registers = fits (low 24, (high 24, (low 26, (high 26, (low 28, (high 28, (low 30, (high 30, (low 32, (high 32, (word 34, tt)))))))))));
-    cycle = fits (word 40, (word 41, (word 42, (bit 43, tt))));
-    watchdog = fits (word 44, tt);
-    sample = rw (signs .again (getD all 48 0)) (fits (word 45, (word 46, (word 47, (word 48, (word 49, (word 50, (word 51, tt))))))));
+    profile = fits (word 0, (word 1, (word 2, (word 3, (word 4, (word 5, (word 6, (word 7, (word 8, (word 9, (word 10, tt)))))))))));
+    settings = fits (word 11, (word 12, (word 13, (word 14, (word 15, (word 16, (word 17, (word 18, (bit 19, (bit 20, (bit 21, (bit 22, (bit 23, (word 24, tt))))))))))))));
+    registers = fits (low 25, (high 25, (low 27, (high 27, (low 29, (high 29, (low 31, (high 31, (low 33, (high 33, (word 35, tt)))))))))));
+    cycle = fits (word 41, (word 42, (word 43, (bit 44, tt))));
+    watchdog = fits (word 45, tt);
+    sample = rw (signs .again (getD all 49 0)) (fits (word 46, (word 47, (word 48, (word 49, (word 50, (word 51, (word 52, tt))))))));
     flags = omega arith;
   }
 

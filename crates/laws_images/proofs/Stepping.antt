@@ -28,9 +28,9 @@ use Rattle.state_registers.specs.Writes.{knownAddress, writtenTo, writeOf}
 use Rattle.state_registers.specs.Resets.{resetOf}
 use Rattle.settle_all.specs.Settle.{forcedOf, settledOf, settleOf}
 use Rattle.state_parts.specs.With.{withFlags}
-use Rattle.step_turns.specs.Ranges.{profileInRange, twoInRange, resistorsInRange}
+use Rattle.step_turns.specs.Ranges.{editionInRange, twoInRange, resistorsInRange}
 use Rattle.step_turns.specs.Coded.{codedOf}
-use Rattle.step_turns.specs.Turns.{heldProfile, heldSample, opensWith, turnOf}
+use Rattle.step_turns.specs.Turns.{heldProfile, heldSample, opensWith, firstEdition, turnOf}
 use Rattle.step_turns.specs.declared.later.Later.{Later}
 use Rattle.step_turns.specs.declared.later.Later.the-variants.{Set, Write, TakeFlags, Observe, Service, Reset, WriteRun, ReadFlags}
 use Rattle.step_turns.specs.declared.turn.Turn.{Turn}
@@ -88,7 +88,8 @@ in-turn false a b h k = k
 
 spelled : (e : Event) → AllFit (itemsOf e) → TurnStamped (turnOf e)
 unfolding turnOf
-spelled (event.PowerOn p) k = in-turn (profileInRange p) (Opens (heldProfile p)) OpensOutside (k .1 .1 .1 .1 .0) tt
+spelled (event.PowerOn p) k = in-turn (editionInRange p firstEdition) (Opens (heldProfile p firstEdition)) OpensOutside (k .1 .1 .1 .1 .0) tt
+spelled (event.PowerOnEdition v) k = in-turn (editionInRange (v .profile) (v .edition)) (Opens (heldProfile (v .profile) (v .edition))) OpensOutside (k .1 .1 .1 .1 .0) tt
 spelled (event.Set number value) k = tt
 spelled (event.Write address byte) k = tt
 spelled event.TakeFlags k = tt
@@ -98,7 +99,7 @@ spelled event.Service k = tt
 spelled event.Reset k = tt
 spelled (event.WriteRun first raw) k = tt
 spelled (event.ReadFlags address) k = tt
-spelled (event.PowerOnResistors r) k = in-turn (resistorsInRange r) (opensWith (codedOf r)) OpensOutside (in-turn (profileInRange (codedOf r)) (Opens (heldProfile (codedOf r))) OpensOutside (k .1 .1 .1 .1 .0) tt) tt
+spelled (event.PowerOnResistors r) k = in-turn (resistorsInRange r) (opensWith (codedOf r) firstEdition) OpensOutside (in-turn (editionInRange (codedOf r) firstEdition) (Opens (heldProfile (codedOf r) firstEdition)) OpensOutside (k .1 .1 .1 .1 .0) tt) tt
 
 -- settling, flags and what a write leaves move no stamp
 settled : (s : State) (observed : Bool) (f : ℕ) → Stamped s → Stamped (withFlags (settleOf s observed) f)

@@ -9,7 +9,7 @@ use Rattle.report_registers.specs.Reads.{valueBy, flagByte}
 use Rattle.state_fields.specs.Words.{bitsAt}
 use Rattle.state_fields.proofs.Puts.{same-below, same-above}
 use Rattle.settle_all.specs.Settle.{forcedOf, settledOf, settleOf}
-use Rattle.settle_all.proofs.Once.{settles-once}
+use Rattle.settle_all.proofs.Rules.{each-settles-once}
 use Rattle.state_parts.specs.Edges.{merged, pulseOf, noFlags}
 use Rattle.state_parts.specs.With.{withFlags}
 use Rattle.state_parts.specs.declared.profile.Profile.{Profile}
@@ -103,7 +103,7 @@ module _ (s : State) (ok : stateOk s ≡ true) where
 
   -- it is settled
   between-settled : settleOf between false ≡ between
-  between-settled = flagged-settles after left false ∙ ap (λ (t : State). withFlags t left) (settles-once s false)
+  between-settled = flagged-settles after left false ∙ ap (λ (t : State). withFlags t left) (each-settles-once .ours s false)
 
   second-is : secondRead s ≡ record { number = 0; place = 0; model = On (withFlags after noFlags); pulse = false; handed = flagByte (after .profile) 0x21 left }
   unfolding turnedBy changeOf movedOf followedOf readFlagsOf seenOn finishOf

@@ -1,8 +1,9 @@
 -- Every row holds, of 01 and of 02: both sides compute to the same numbers.
 use mathlib.Core.Path.{refl}
 use Rattle.settle_bands.specs.Effect.{shareOf, cutOf, suspendsOf}
-use Rattle.settle_bands.specs.Thresholds.{bandOf}
-use Rattle.settle_bands.specs.Joined.{either, joinedOf, packBandOf}
+use Rattle.settle_bands.specs.Thresholds.{bandBy, marksOf, bandOf}
+use Rattle.settle_bands.specs.Joined.{either, joinedOf}
+use Rattle.settle_bands.specs.Holding.{staysBy, nextBy, nextOf, bandsOf}
 use Rattle.base.specs.Units.{inPack, belowShare}
 use Rattle.step_event.specs.Clock.{observedOf, countedOf, clearedIf, timesOf, unitsOf}
 use Rattle.step_event.specs.Pages.{wholeOf, pageOf}
@@ -28,7 +29,7 @@ use Rattle.state_runs.specs.Registers.{settingsTaken, badRegister, registerTake
 use Rattle.state_runs.specs.Runs.{badRun, keptRun, writtenRun, writeRunOf, resets, serves}
 use Rattle.step_kinds.specs.Plain.{setOf, writtenOf, actedOf, runFrom, readFlagsOf}
 use Rattle.step_pins.specs.Codes.{codeOf}
-use Rattle.step_turns.specs.Ranges.{profileInRange, sampleInRange, twoInRange, resistorsInRange}
+use Rattle.step_turns.specs.Ranges.{profileInRange, editionInRange, sampleInRange, twoInRange, resistorsInRange}
 use Rattle.step_turns.specs.Turns.{turnOf}
 use Rattle.log_number.specs.Number.{numberAt, readNumber, readGroups, spell, groups}
 use Rattle.state_parts.specs.Edges.{merged, pulseOf, flagsNumber}
@@ -57,9 +58,9 @@ use Rattle.state_start.specs.Values.{startState, startSettings, startVreg, star
 use Rattle.state_valid.specs.Holds.{stateOk, profileOk, registersOk, cycleOk, watchdogOk, sampleOk}
 
 pub every-row : EveryRow
-unfolding rows runText linesText wholeOf endText headedText spellEvent numberAt lineText numbersOf pageOf startWalk stepOf spellItems readNumber decimal walkOf heldOf reportOf firstOf stateOk movedOf readGroups decimalBy recordAt settingNumbers fastCurrent chargeVoltageOf inputLimitOf profileOk settingsOk registersOk cycleOk watchdogOk sampleOk setOf observeOf spell readRecord chargeClampOf shareOf baseOf inPack cutOf mayHold finishOf storeOf writeOf observedOf resetOf groups metBy packClampOf settleOf startState wordsOk rangeOf edgesOf merged pulseOf writtenTo countedOf expiredOf clearedIf timesOf unitsOf startSettings resetRegisters lineOf readItems forcedOf latchesOf packBandOf joinedOf either bandOf settledOf testsOf fieldsOf ranges seenOf recounted writtenRegisters takenBy gathered regulatedOf startVreg startIchg startVsysmin flagsNumber eventOf faultOf shortOf lowOf packOverOf cycleOf phaseOf permittedOf suspendsOf belowRecharge taperOf endingOf fields reachedOf signedOf belowShare clearsOf endsOf judgedOf restartsOf turnedBy changeOf followedOf writtenOf turnOf profileInRange sampleInRange twoInRange seenOn startWords restoredBy withoutOverrides putIn withWord putAt expiresOf
+unfolding rows runText linesText wholeOf endText headedText spellEvent numberAt lineText numbersOf pageOf startWalk stepOf spellItems readNumber decimal walkOf heldOf reportOf firstOf stateOk movedOf readGroups decimalBy recordAt settingNumbers fastCurrent chargeVoltageOf inputLimitOf profileOk settingsOk registersOk cycleOk watchdogOk sampleOk setOf observeOf spell readRecord chargeClampOf shareOf baseOf inPack cutOf mayHold finishOf storeOf writeOf observedOf resetOf groups metBy packClampOf settleOf startState wordsOk rangeOf edgesOf merged pulseOf writtenTo countedOf expiredOf clearedIf timesOf unitsOf startSettings resetRegisters lineOf readItems forcedOf latchesOf bandsOf nextOf nextBy staysBy joinedOf either bandOf bandBy marksOf settledOf testsOf fieldsOf ranges seenOf recounted writtenRegisters takenBy gathered regulatedOf startVreg startIchg startVsysmin flagsNumber eventOf faultOf shortOf lowOf packOverOf cycleOf phaseOf permittedOf suspendsOf belowRecharge taperOf endingOf fields reachedOf signedOf belowShare clearsOf endsOf judgedOf restartsOf turnedBy changeOf followedOf writtenOf turnOf profileInRange editionInRange sampleInRange twoInRange seenOn startWords restoredBy withoutOverrides putIn withWord putAt expiresOf
 every-row = (refl, (refl, (refl, (refl, (refl, (refl, (refl, (refl, (refl, (refl, tt))))))))))
 
 pub every-request : EveryRequest
-unfolding requested runText linesText wholeOf endText headedText spellEvent numberAt lineText numbersOf pageOf startWalk stepOf spellItems readNumber decimal walkOf heldOf reportOf firstOf stateOk movedOf readGroups decimalBy recordAt settingNumbers fastCurrent chargeVoltageOf inputLimitOf profileOk settingsOk registersOk cycleOk watchdogOk sampleOk setOf observeOf spell readRecord chargeClampOf shareOf baseOf inPack cutOf mayHold finishOf storeOf writeOf observedOf resetOf groups metBy packClampOf settleOf startState wordsOk rangeOf edgesOf merged pulseOf writtenTo countedOf expiredOf clearedIf timesOf unitsOf startSettings resetRegisters lineOf readItems forcedOf latchesOf packBandOf joinedOf either bandOf settledOf testsOf fieldsOf ranges seenOf recounted writtenRegisters takenBy gathered regulatedOf startVreg startIchg startVsysmin flagsNumber eventOf faultOf shortOf lowOf packOverOf cycleOf phaseOf permittedOf suspendsOf belowRecharge taperOf endingOf fields reachedOf signedOf belowShare clearsOf endsOf judgedOf restartsOf turnedBy changeOf followedOf writtenOf turnOf profileInRange sampleInRange twoInRange seenOn resistorsInRange codeOf startWords restoredBy withoutOverrides putIn withWord putAt expiresOf runFrom readFlagsOf actedOf writeRunOf badRun keptRun writtenRun resets serves settingsTaken badRegister registerTaken byteOf hasSpelling allZero readRaw rawAt spellRaw bytesOf wordsIn wordAt flagByte valueBy
-every-request = (refl, (refl, (refl, (refl, (refl, (refl, (refl, (refl, (refl, (refl, (refl, (refl, (refl, (refl, (refl, (refl, (refl, (refl, (refl, (refl, (refl, (refl, (refl, tt)))))))))))))))))))))))
+unfolding requested runText linesText wholeOf endText headedText spellEvent numberAt lineText numbersOf pageOf startWalk stepOf spellItems readNumber decimal walkOf heldOf reportOf firstOf stateOk movedOf readGroups decimalBy recordAt settingNumbers fastCurrent chargeVoltageOf inputLimitOf profileOk settingsOk registersOk cycleOk watchdogOk sampleOk setOf observeOf spell readRecord chargeClampOf shareOf baseOf inPack cutOf mayHold finishOf storeOf writeOf observedOf resetOf groups metBy packClampOf settleOf startState wordsOk rangeOf edgesOf merged pulseOf writtenTo countedOf expiredOf clearedIf timesOf unitsOf startSettings resetRegisters lineOf readItems forcedOf latchesOf bandsOf nextOf nextBy staysBy joinedOf either bandOf bandBy marksOf settledOf testsOf fieldsOf ranges seenOf recounted writtenRegisters takenBy gathered regulatedOf startVreg startIchg startVsysmin flagsNumber eventOf faultOf shortOf lowOf packOverOf cycleOf phaseOf permittedOf suspendsOf belowRecharge taperOf endingOf fields reachedOf signedOf belowShare clearsOf endsOf judgedOf restartsOf turnedBy changeOf followedOf writtenOf turnOf profileInRange editionInRange sampleInRange twoInRange seenOn resistorsInRange codeOf startWords restoredBy withoutOverrides putIn withWord putAt expiresOf runFrom readFlagsOf actedOf writeRunOf badRun keptRun writtenRun resets serves settingsTaken badRegister registerTaken byteOf hasSpelling allZero readRaw rawAt spellRaw bytesOf wordsIn wordAt flagByte valueBy
+every-request = (refl, (refl, (refl, (refl, (refl, (refl, (refl, (refl, (refl, (refl, (refl, (refl, (refl, (refl, (refl, (refl, (refl, (refl, (refl, (refl, (refl, (refl, (refl, (refl, (refl, (refl, tt))))))))))))))))))))))))))

@@ -14,6 +14,7 @@ use Rattle.state_parts.specs.declared.state.Model.the-variants.{Off, On}
 use Rattle.log_number.specs.Number.{numberAt}
 use Rattle.log_event.specs.declared.Event.{Event}
 use Rattle.log_record.specs.Records.{spellEvent}
+use Rattle.settle_bands.specs.Joined.{packBand}
 use Rattle.state_settings.specs.Numbered.{heldOf}
 use Rattle.report_state.specs.Report.{reportOf}
 use Rattle.step_event.specs.Steps.{stepOf}
@@ -30,7 +31,7 @@ pub data Asked : Type 0 where
 
 abbrev pub told : State → Asked → ℕ
 told s (setting number) = heldOf (s .settings) number
-told s band = bandNumber (s .band)
+told s band = bandNumber (packBand (s .bands))
 told s phase = phaseNumber (reportOf s .phase)
 told s current = reportOf s .current
 told s voltage = millivoltsOf (reportOf s .voltage)

@@ -66,6 +66,22 @@ hotTs = 0xB0 ∷ 0xEA ∷ 0x01 ∷ []
 abbrev pub largeTs : List ℕ
 largeTs = 0xA1 ∷ 0x8D ∷ 0x06 ∷ []
 
+-- R-8: 01's power-on as kind 11 with an edition, and what follows
+abbrev pub editionLog : ℕ → List ℕ → List ℕ
+editionLog edition bytes =
+    0x0B ∷ 0x02 ∷ 0x05 ∷ 0x04 ∷ 0x00 ∷ 0x00 ∷ 0x94 ∷ 0x23 ∷ 0x90 ∷ 0x1C ∷ 0xA0 ∷ 0x38 ∷ 0xA0 ∷ 0x99 ∷ 0x02 ∷ 0x00 ∷ edition ∷ bytes
+
+-- 01's observation with this stamp and TS
+abbrev pub turnedTo : List ℕ → List ℕ → List ℕ
+turnedTo stamp ts = 0x05 ∷ (stamp ++ (0xE0 ∷ 0x5D ∷ 0xB0 ∷ 0x3B ∷ 0x00 ∷ (ts ++ (0x00 ∷ []))))
+
+-- at TH2, 68,250; 999 and 1,000 back; at TH1, 75,320; 999 and 1,000 back; at TH5, 34,375; 999 and 1,000 back
+abbrev pub turningSamples : List ℕ
+turningSamples =
+    turnedTo (0xE8 ∷ 0x07 ∷ []) (0x9A ∷ 0x95 ∷ 0x04 ∷ []) ++ (turnedTo (0xD0 ∷ 0x0F ∷ []) (0xB3 ∷ 0x8D ∷ 0x04 ∷ []) ++ (turnedTo (0xB8 ∷ 0x17 ∷ []) (0xB2 ∷ 0x8D ∷ 0x04 ∷ [])
+    ++ (turnedTo (0xA0 ∷ 0x1F ∷ []) (0xB8 ∷ 0xCC ∷ 0x04 ∷ []) ++ (turnedTo (0x88 ∷ 0x27 ∷ []) (0xD1 ∷ 0xC4 ∷ 0x04 ∷ []) ++ (turnedTo (0xF0 ∷ 0x2E ∷ []) (0xD0 ∷ 0xC4 ∷ 0x04 ∷ [])
+    ++ (turnedTo (0xD8 ∷ 0x36 ∷ []) (0xC7 ∷ 0x8C ∷ 0x02 ∷ []) ++ (turnedTo (0xC0 ∷ 0x3E ∷ []) (0xAE ∷ 0x94 ∷ 0x02 ∷ []) ++ turnedTo (0xA8 ∷ 0x46 ∷ []) (0xAF ∷ 0x94 ∷ 0x02 ∷ []))))))))
+
 unfoldable pub requested : List Row
 requested =
     -- R-1: taper; done, though 7,890 is below 97% of 8,400; still done; back in normal the band alone restarts the cycle
@@ -117,6 +133,15 @@ requested =
     -- 01's own log with kind 10 for its observation; and a record that ends before its bits
     ∷ row (log (pairedLog (pairedSample (0xE8 ∷ 0x07 ∷ []) normalTs normalTs ++ (0x0A ∷ 0xD0 ∷ 0x0F ∷ 0xE0 ∷ 0x5D ∷ 0xB0 ∷ 0x3B ∷ 0x00 ∷ (normalTs ++ normalTs)))))
     (bytesOf "1 1 0 0 0 0 3300 1 32\n2 10 0 3 1500 8400 3300 1 97\nend 2 1 45\n")
+    -- R-8: "held until TS is 1,000 units or more back": cool at TH2, still cool, normal; cold at TH1, still cold, and left for cool; hot at TH5, still hot, and left for warm
+    ∷ row (log (editionLog 2 turningSamples))
+    (bytesOf "1 11 0 0 0 0 3300 1 32\n2 5 0 3 300 8400 3300 1 225\n3 5 0 3 300 8400 3300 0 225\n4 5 0 3 1500 8400 3300 1 225\n5 5 0 6 0 0 3300 1 225\n6 5 0 6 0 0 3300 0 225\n7 5 0 3 300 8400 3300 1 225\n8 5 0 6 0 0 3300 1 225\n9 5 0 6 0 0 3300 0 225\n10 5 0 3 1500 8200 3300 1 225\nend 10 0 125\n")
+    -- the first edition judges each afresh
+    ∷ row (log (editionLog 1 turningSamples))
+    (bytesOf "1 11 0 0 0 0 3300 1 32\n2 5 0 3 300 8400 3300 1 225\n3 5 0 3 1500 8400 3300 1 225\n4 5 0 3 1500 8400 3300 0 225\n5 5 0 6 0 0 3300 1 225\n6 5 0 3 300 8400 3300 1 225\n7 5 0 3 300 8400 3300 0 225\n8 5 0 6 0 0 3300 1 225\n9 5 0 3 1500 8200 3300 1 225\n10 5 0 3 1500 8200 3300 0 225\nend 10 0 125\n")
+    -- "another edition number is 5": 3 and 0; "for each thermistor by itself": one cool beside a normal one, and then still cool beside one at TH3, which suspends
+    ∷ row (log (editionLog 3 (editionLog 0 (editionLog 2 (pairedSample (0xE8 ∷ 0x07 ∷ []) (0x9A ∷ 0x95 ∷ 0x04 ∷ []) normalTs ++ pairedSample (0xD0 ∷ 0x0F ∷ []) (0xB3 ∷ 0x8D ∷ 0x04 ∷ []) (0xCE ∷ 0xDD ∷ 0x02 ∷ []))))))
+    (bytesOf "1 11 5 0 0 0 0 0 0\n2 11 5 0 0 0 0 0 0\n3 11 0 0 0 0 3300 1 32\n4 10 0 3 300 8400 3300 1 225\n5 10 0 6 0 0 3300 1 225\nend 5 0 81\n")
     ∷ []
 
 abbrev pub EveryRequest : Type 0

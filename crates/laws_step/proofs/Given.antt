@@ -10,6 +10,7 @@ use Rattle.base.specs.Pick.{pick}
 use Rattle.base.specs.Stamps.{elapsedOf}
 use Rattle.base.specs.Told.{Told, accepted, refused, answerNumber}
 use Rattle.state_table.specs.Rows.{frequencyOk, fsw, digitOf}
+use Rattle.log_event.specs.declared.spelled.SpelledEdition.{SpelledEdition}
 use Rattle.log_event.specs.declared.spelled.SpelledProfile.{SpelledProfile}
 use Rattle.log_event.specs.declared.spelled.SpelledResistors.{SpelledResistors}
 use Rattle.log_event.specs.declared.spelled.SpelledSample.{SpelledSample}
@@ -18,7 +19,7 @@ use Rattle.state_parts.specs.declared.state.State.{State}
 use Rattle.state_parts.specs.declared.state.Model.{Model}
 use Rattle.state_parts.specs.declared.state.Model.the-variants.{Off, On}
 use Rattle.log_event.specs.declared.Event.{Event}
-use Rattle.log_event.specs.declared.Event.the-variants.{PowerOn, Set, Write, TakeFlags, Observe, Service, Reset, PowerOnResistors, ObserveTwo, WriteRun, ReadFlags}
+use Rattle.log_event.specs.declared.Event.the-variants.{PowerOn, Set, Write, TakeFlags, Observe, Service, Reset, PowerOnResistors, ObserveTwo, PowerOnEdition, WriteRun, ReadFlags}
 use Rattle.log_raw.specs.Raw.{byteOf, hasSpelling}
 use Rattle.log_raw.specs.Struct.{rawOf}
 use Rattle.log_raw.specs.declared.RawBytes.{RawBytes}
@@ -26,9 +27,9 @@ use Rattle.report_registers.specs.Reads.{flagRegister}
 use Rattle.state_runs.specs.Runs.{halves, illegalFrequency, badRun, writtenRun, writeRunOf}
 use Rattle.state_settings.specs.Ranges.{lastSetting, knownSetting, mayHold}
 use Rattle.state_valid.specs.Holds.{stateOk}
-use Rattle.step_turns.specs.Ranges.{profileInRange, twoInRange, resistorsInRange}
+use Rattle.step_turns.specs.Ranges.{editionInRange, twoInRange, resistorsInRange}
 use Rattle.step_turns.specs.Coded.{codedOf}
-use Rattle.step_turns.specs.Turns.{heldProfile, heldSample, opensWith, observesWith, turnOf}
+use Rattle.step_turns.specs.Turns.{heldProfile, heldSample, opensWith, firstEdition, observesWith, turnOf}
 use Rattle.step_turns.specs.declared.later.Later.the-variants as later
 use Rattle.step_turns.specs.declared.turn.Turn.{Turn}
 use Rattle.step_turns.specs.declared.turn.Turn.the-variants.{Opens, Follows, OpensOutside, FollowsOutside}
@@ -39,11 +40,11 @@ use Rattle.step_kinds.specs.Finish.{finishOf}
 use Rattle.step_kinds.specs.Plain.{afterWrite, setOf, writtenOf, afterRun, runFrom, readFlagsOf}
 use Rattle.step_event.specs.Steps.{observeOf, followedOf, movedOf, firstOf, changeOf, closedBy, turnedBy, stepOf}
 use Rattle.laws_step.specs.Ranged.{Among}
-use Rattle.laws_step.specs.Rows.{ResistorsIn, PowersOn, by-codes, by-resistors, Row, bad-field, bad-profile, bad-resistors, bad-byte, bad-sample, bad-two, no-spelling, not-powered, too-far, two-too-far, no-setting, bad-value, run-value, no-address, run-outside, no-flags, bad-frequency, run-frequency, run-half}
+use Rattle.laws_step.specs.Rows.{ResistorsIn, PowersOn, by-codes, by-resistors, by-edition, Row, bad-field, bad-profile, bad-resistors, bad-edition, bad-byte, bad-sample, bad-two, no-spelling, not-powered, too-far, two-too-far, no-setting, bad-value, run-value, no-address, run-outside, no-flags, bad-frequency, run-frequency, run-half}
 use Rattle.laws_step.specs.Theorems.{EachGiven, NumberKnown}
 use Rattle.laws_step.specs.RunRows.{Spelled, InMap, HasHalf, NoFrequency, Unheld}
 use Rattle.laws_step.proofs.RunRows.{spelled-is, inside-is, half-is, frequency-is, unheld-is, flags-at}
-use Rattle.laws_step.proofs.InRanges.{outside, refuted, failed, among, profile-in, resistors-in, two-in, twice-in, value-in, bad-frequency-is}
+use Rattle.laws_step.proofs.InRanges.{outside, refuted, failed, among, first-in, edition-in, resistors-in, two-in, twice-in, value-in, bad-frequency-is}
 
 -- a change is an accepted event's, or a row gives its number
 abbrev Says : Model → Event → Told Changed → Type 0
@@ -65,15 +66,22 @@ module _ (m : Model) (change : Turn → Told Changed) (opens : (p : Profile) →
   opens-by e p true bad = inl (opens p)
   opens-by e p false bad = inr (subst (λ (n : ℕ). Row n m e) (sym out) (bad refl))
 
-  powers : (p : SpelledProfile) → Says m (PowerOn p) (change (opensWith p))
-  powers p = opens-by (PowerOn p) (heldProfile p) (profileInRange p) (λ h. bad-profile m p (outside (profileInRange p) (profile-in p) h))
+  powers : (p : SpelledProfile) → Says m (PowerOn p) (change (opensWith p firstEdition))
+  powers p =
+      let t = editionInRange p firstEdition in
+      opens-by (PowerOn p) (heldProfile p firstEdition) t (λ h. bad-profile m p (outside t (first-in p) h))
 
-  solders : (r : SpelledResistors) → Says m (PowerOnResistors r) (change (pick (resistorsInRange r) (opensWith (codedOf r)) OpensOutside))
+  edits : (v : SpelledEdition) → Says m (PowerOnEdition v) (change (opensWith (v .profile) (v .edition)))
+  edits v =
+      let t = editionInRange (v .profile) (v .edition) in
+      opens-by (PowerOnEdition v) (heldProfile (v .profile) (v .edition)) t (λ h. bad-edition m v (outside t (edition-in v) h))
+
+  solders : (r : SpelledResistors) → Says m (PowerOnResistors r) (change (pick (resistorsInRange r) (opensWith (codedOf r) firstEdition) OpensOutside))
   solders r =
       let p = codedOf r in
-      let t = resistorsInRange r && profileInRange p in
-      rw (two-tests (resistorsInRange r) (profileInRange p) (Opens (heldProfile p)) OpensOutside)
-      (opens-by (PowerOnResistors r) (heldProfile p) t (λ h. bad-resistors m r (outside t (resistors-in r) h)))
+      let t = resistorsInRange r && editionInRange p firstEdition in
+      rw (two-tests (resistorsInRange r) (editionInRange p firstEdition) (Opens (heldProfile p firstEdition)) OpensOutside)
+      (opens-by (PowerOnResistors r) (heldProfile p firstEdition) t (λ h. bad-resistors m r (outside t (resistors-in r) h)))
 
 module _ (s : State) (ok : stateOk s ≡ true) where
   sets : (number value : ℕ) → Says (On s) (Set number value) (setOf s number value)
@@ -143,6 +151,7 @@ module _ (s : State) (ok : stateOk s ≡ true) where
   moves Service = inl refl
   moves Reset = inl refl
   moves (PowerOnResistors r) = solders (On s) (movedOf s) (λ q. refl) refl r
+  moves (PowerOnEdition v) = edits (On s) (movedOf s) (λ q. refl) refl v
   moves (WriteRun first raw) = runs first raw
   moves (ReadFlags address) = reads address
 
@@ -166,6 +175,7 @@ first (ObserveTwo x) = not-yet (ObserveTwo x) (x .sample) (x .second) (elim [ ])
 first Service = inr (not-powered Service (elim [ ]))
 first Reset = inr (not-powered Reset (elim [ ]))
 first (PowerOnResistors r) = solders Off firstOf (λ q. refl) refl r
+first (PowerOnEdition v) = edits Off firstOf (λ q. refl) refl v
 first (WriteRun address raw) = inr (not-powered (WriteRun address raw) (elim [ ]))
 first (ReadFlags address) = inr (not-powered (ReadFlags address) (elim [ ]))
 
@@ -193,17 +203,19 @@ by-test : (t : Bool) (n : ℕ) (c : Told Changed) → answerNumber c ≡ n → a
 by-test true n c e = e
 by-test false n c e = refl
 
-outside-range : (r : SpelledResistors) → ¬ ResistorsIn r → pick (resistorsInRange r) (opensWith (codedOf r)) OpensOutside ≡ OpensOutside
+outside-range : (r : SpelledResistors) → ¬ ResistorsIn r → pick (resistorsInRange r) (opensWith (codedOf r) firstEdition) OpensOutside ≡ OpensOutside
 outside-range r out =
     let p = codedOf r in
-    two-tests (resistorsInRange r) (profileInRange p) (Opens (heldProfile p)) OpensOutside
-    ∙ ap (λ (t : Bool). pick t (Opens (heldProfile p)) OpensOutside) (failed (resistorsInRange r && profileInRange p) (resistors-in r) out)
+    two-tests (resistorsInRange r) (editionInRange p firstEdition) (Opens (heldProfile p firstEdition)) OpensOutside
+    ∙ ap (λ (t : Bool). pick t (Opens (heldProfile p firstEdition)) OpensOutside) (failed (resistorsInRange r && editionInRange p firstEdition) (resistors-in r) out)
 
 rows-give : {n : ℕ} {m : Model} {e : Event} → Row n m e → answerNumber (changeOf m (turnOf e)) ≡ n
 unfolding changeOf turnOf movedOf followedOf firstOf writtenOf observeOf setOf runFrom writeRunOf readFlagsOf
 rows-give (bad-field s e bad) = simp (failed (stateOk s) (λ k. k, λ k. k) bad)
-rows-give (bad-profile Off p out) = simp (failed (profileInRange p) (profile-in p) out)
-rows-give (bad-profile (On s) p out) = by-test (stateOk s) 5 (movedOf s (turnOf (PowerOn p))) (simp (failed (profileInRange p) (profile-in p) out))
+rows-give (bad-profile Off p out) = simp (failed (editionInRange p firstEdition) (first-in p) out)
+rows-give (bad-profile (On s) p out) = by-test (stateOk s) 5 (movedOf s (turnOf (PowerOn p))) (simp (failed (editionInRange p firstEdition) (first-in p) out))
+rows-give (bad-edition Off v out) = simp (failed (editionInRange (v .profile) (v .edition)) (edition-in v) out)
+rows-give (bad-edition (On s) v out) = by-test (stateOk s) 5 (movedOf s (turnOf (PowerOnEdition v))) (simp (failed (editionInRange (v .profile) (v .edition)) (edition-in v) out))
 rows-give (bad-resistors Off r out) = simp (outside-range r out)
 rows-give (bad-resistors (On s) r out) = by-test (stateOk s) 5 (movedOf s (turnOf (PowerOnResistors r))) (simp (outside-range r out))
 rows-give (bad-byte s address byte known large) =
@@ -219,6 +231,7 @@ rows-give (not-powered (ObserveTwo x) other) = six-first (x .sample) (x .second)
 rows-give (not-powered Service other) = refl
 rows-give (not-powered Reset other) = refl
 rows-give (not-powered (PowerOnResistors r) other) = absurd (other (by-resistors r))
+rows-give (not-powered (PowerOnEdition v) other) = absurd (other (by-edition v))
 rows-give (not-powered (WriteRun address raw) other) = refl
 rows-give (not-powered (ReadFlags address) other) = refl
 rows-give (too-far s x ok fits far) = simp (ok, twice-in x .1 fits, lt-ltb 3600000 (elapsedOf (s .sample .stamp) (x .stamp)) far)
@@ -262,6 +275,7 @@ known : {n : ℕ} {m : Model} {e : Event} → Row n m e → Among n 5 11 ⊎ (n 
 known (bad-field s e bad) = inl (omega arith, omega arith)
 known (bad-profile m p out) = inl (omega arith, omega arith)
 known (bad-resistors m r out) = inl (omega arith, omega arith)
+known (bad-edition m v out) = inl (omega arith, omega arith)
 known (bad-byte s address byte among large) = inl (omega arith, omega arith)
 known (bad-sample s x out) = inl (omega arith, omega arith)
 known (bad-two s x out) = inl (omega arith, omega arith)

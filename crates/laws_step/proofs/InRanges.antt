@@ -1,15 +1,17 @@
 -- The tests of ranges, and the statements that they stand for, each way.
-use Prim.Native.Nat.{ℕ, _%_, _≤_}
+use Prim.Native.Nat.{ℕ, _%_, _≤_, _<_}
 use mathlib.Core.Path.{_≡_, refl, sym, subst, _∙_}
 use mathlib.Core.Bool.{Bool, true, false, not, _&&_, true≢false}
 use mathlib.Core.Logic.{_↔_, _⊎_, inl, inr}
 use native.Mathlib.Omega.{arith}
+use native.Mathlib.Decide.{decLt}
 use lib.Dec.{T, leb, eqb}
 use lib.IntN.{ℤ}
 use lib.Signed.{leZ, _≤ℤ_}
 use borrow.Author.Tests.{le-leb, eqb-true, eq-eqb, lt-leb, leb-false, not-true}
 use Rattle.base.proofs.Tests.{and-iff, leb-iff}
 use Rattle.state_table.specs.Rows.{digitOf, fsw, frequencyOk}
+use Rattle.log_event.specs.declared.spelled.SpelledEdition.{SpelledEdition}
 use Rattle.log_event.specs.declared.spelled.SpelledProfile.{SpelledProfile}
 use Rattle.log_event.specs.declared.spelled.SpelledResistors.{SpelledResistors}
 use Rattle.log_event.specs.declared.spelled.SpelledSample.{SpelledSample}
@@ -17,10 +19,11 @@ use Rattle.log_event.specs.declared.spelled.SpelledTwo.{SpelledTwo}
 use Rattle.state_parts.specs.declared.profile.Profile.{Profile}
 use Rattle.state_settings.specs.Ranges.{lastSetting, rangeOf, knownSetting, mayHold}
 use Rattle.step_pins.proofs.Pins.{pin-table}
-use Rattle.step_turns.specs.Ranges.{profileInRange, sampleInRange, twoInRange, resistorsInRange}
+use Rattle.step_turns.specs.Ranges.{profileInRange, editionInRange, sampleInRange, twoInRange, resistorsInRange}
 use Rattle.step_turns.specs.Coded.{codedOf}
+use Rattle.step_turns.specs.Turns.{firstEdition}
 use Rattle.laws_step.specs.Ranged.{Among, ValueIn}
-use Rattle.laws_step.specs.Rows.{ProfileIn, ResistorsIn, SampleIn, TwoIn}
+use Rattle.laws_step.specs.Rows.{ProfileIn, ResistorsIn, EditionIn, SampleIn, TwoIn}
 
 -- a test that fails, and the statement that it stands for
 pub outside : {P : Type 0} (t : Bool) → (t ≡ true) ↔ P → t ≡ false → ¬ P
@@ -64,13 +67,47 @@ profile-in p = (
       simp (and-iff, leb-iff) (((((((((k .cell, k .vchg), k .ichg), k .ohms), k .ceiling .0), k .ceiling .1), k .trickle), k .precharge), k .fast), k .watchdog),
 )
 
+-- an edition is the first or the second
+one-or-two : (n : ℕ) → ((leb 1 n && leb n 2) ≡ true) ↔ ((n ≡ 1) ⊎ (n ≡ 2))
+one-or-two n = (λ e. let k = simp (and-iff, leb-iff) at e in by (decLt 1 n) (omega arith) (omega arith), back)
+  where
+    by : Dec (1 < n) → 1 ≤ n → n ≤ 2 → (n ≡ 1) ⊎ (n ≡ 2)
+    by (yes l) low high = inr (omega arith)
+    by (no l) low high = inl (omega arith)
+
+    back : (n ≡ 1) ⊎ (n ≡ 2) → (leb 1 n && leb n 2) ≡ true
+    back (inl e) = rw e
+    back (inr e) = rw e
+
+regrouped : (a b c : Bool) → ((a && b) && c) ≡ (a && (b && c))
+regrouped true b c = refl
+regrouped false b c = refl
+
+pub edition-in : (v : SpelledEdition) → (editionInRange (v .profile) (v .edition) ≡ true) ↔ EditionIn v
+unfolding editionInRange
+edition-in v =
+    let p = profileInRange (v .profile) in
+    let t = leb 1 (v .edition) && leb (v .edition) 2 in
+    let apart = regrouped p (leb 1 (v .edition)) (leb (v .edition) 2) in (
+      λ e.
+          let k = and-iff p t .0 (sym apart ∙ e) in
+          record { profile = profile-in (v .profile) .0 (k .0); edition = one-or-two (v .edition) .0 (k .1) },
+      λ k. apart ∙ and-iff p t .1 (profile-in (v .profile) .1 (k .profile), one-or-two (v .edition) .1 (k .edition)),
+    )
+
+-- 02, R-8: "Kinds 1 and 9 mean the first": its ranges are those of the profile
+pub first-in : (p : SpelledProfile) → (editionInRange p firstEdition ≡ true) ↔ ProfileIn p
+first-in p =
+    let v : SpelledEdition = record { profile = p; edition = firstEdition } in
+    (λ e. edition-in v .0 e .profile, λ k. edition-in v .1 (record { profile = k; edition = inl refl }))
+
 -- a resistor's code is one of 0 to 7, so kind 1's ranges leave the numbers from the ILIM ohms on
-pub resistors-in : (r : SpelledResistors) → ((resistorsInRange r && profileInRange (codedOf r)) ≡ true) ↔ ResistorsIn r
+pub resistors-in : (r : SpelledResistors) → ((resistorsInRange r && editionInRange (codedOf r) firstEdition) ≡ true) ↔ ResistorsIn r
 unfolding resistorsInRange
 resistors-in r = (
   λ e.
-      let k = simp (and-iff, leb-iff) at (and-iff (resistorsInRange r) (profileInRange (codedOf r)) .0 e .0) in
-      let p = profile-in (codedOf r) .0 (and-iff (resistorsInRange r) (profileInRange (codedOf r)) .0 e .1) in
+      let k = simp (and-iff, leb-iff) at (and-iff (resistorsInRange r) (editionInRange (codedOf r) firstEdition) .0 e .0) in
+      let p = first-in (codedOf r) .0 (and-iff (resistorsInRange r) (editionInRange (codedOf r) firstEdition) .0 e .1) in
       record {
         cell = omega arith;
         vchg = omega arith;
@@ -95,7 +132,7 @@ resistors-in r = (
         fast = k .fast;
         watchdog = k .watchdog;
       } in
-      and-iff (resistorsInRange r) (profileInRange (codedOf r)) .1 (simp (and-iff, leb-iff) ((k .cell, k .vchg), k .ichg), profile-in (codedOf r) .1 p),
+      and-iff (resistorsInRange r) (editionInRange (codedOf r) firstEdition) .1 (simp (and-iff, leb-iff) ((k .cell, k .vchg), k .ichg), first-in (codedOf r) .1 p),
 )
 
 pub sample-in : (x : SpelledSample) → (sampleInRange x ≡ true) ↔ SampleIn x

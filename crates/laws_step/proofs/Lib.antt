@@ -7,3 +7,4 @@ pub mod Observed
 pub mod Exchanged
 pub mod Sums
 pub mod TakenFlags
+pub mod Editions

@@ -1,4 +1,4 @@
--- A power-on by its resistors acts as the one by codes, and what is held of a power-on is what it says.
+-- A power-on by its resistors acts as the one by codes, one of edition 1 as the one without, and what is held of a power-on is what it says.
 use Prim.Native.Nat.{ℕ, _≤_, _<_}
 use mathlib.Core.Path.{_≡_, refl, sym, ap, _∙_}
 use mathlib.Core.Bool.{Bool, true, false}
@@ -16,17 +16,18 @@ use Rattle.state_parts.specs.declared.state.Model.the-variants.{Off, On}
 use Rattle.state_valid.specs.Holds.{stateOk}
 use Rattle.step_turns.specs.Ranges.{resistorsInRange}
 use Rattle.step_turns.specs.Coded.{codedOf}
-use Rattle.step_turns.specs.Turns.{opensWith, turnOf}
+use Rattle.step_turns.specs.Turns.{opensWith, firstEdition, turnOf}
 use Rattle.step_turns.specs.declared.turn.Turn.{Turn}
 use Rattle.step_turns.specs.declared.turn.Turn.the-variants.{Opens, OpensOutside}
 use Rattle.step_turns.proofs.Beginning.{begins-as-said}
+use Rattle.step_turns.proofs.Fitting.{first-says-one}
 use Rattle.step_kinds.specs.Answers.{Outcome, refusedWith}
 use Rattle.step_kinds.specs.Finish.{finishOf}
 use Rattle.step_kinds.specs.Plain.{openedAs}
 use Rattle.settle_all.specs.Settle.{settleOf, settledOf, forcedOf}
 use Rattle.state_start.specs.Values.{startState}
 use Rattle.step_event.specs.Steps.{movedOf, firstOf, changeOf, closedBy, turnedBy, stepOf}
-use Rattle.laws_step.specs.Powered.{TooLarge, at-cell, at-vchg, at-ichg, ActsAsCodes, HoldsProfile, HoldsWhatIsSaid}
+use Rattle.laws_step.specs.Powered.{TooLarge, at-cell, at-vchg, at-ichg, ActsAsCodes, FirstActsAsOne, HoldsProfile, HoldsWhatIsSaid}
 use Rattle.laws_step.proofs.InRanges.{failed}
 
 -- ---- the three resistors
@@ -74,11 +75,11 @@ outside-step (On s) = by (stateOk s)
 
 same-step : (m : Model) (r : SpelledResistors) → ¬ TooLarge r → stepOf m (PowerOnResistors r) ≡ stepOf m (PowerOn (codedOf r))
 unfolding stepOf turnOf
-same-step m r out = ap (λ (t : Bool). turnedBy m (pick t (opensWith (codedOf r)) OpensOutside)) (small r out)
+same-step m r out = ap (λ (t : Bool). turnedBy m (pick t (opensWith (codedOf r) firstEdition) OpensOutside)) (small r out)
 
 large-step : (m : Model) (r : SpelledResistors) → TooLarge r → stepOf m (PowerOnResistors r) ≡ refusedWith 5 m
 unfolding stepOf turnOf
-large-step m r l = ap (λ (t : Bool). turnedBy m (pick t (opensWith (codedOf r)) OpensOutside)) (large r l) ∙ outside-step m
+large-step m r l = ap (λ (t : Bool). turnedBy m (pick t (opensWith (codedOf r) firstEdition) OpensOutside)) (large r l) ∙ outside-step m
 
 refused-as : (m : Model) (r : SpelledResistors)
     → (stepOf m (PowerOnResistors r) .number ≢ 0) ↔ ((stepOf m (PowerOn (codedOf r)) .number ≢ 0) ⊎ TooLarge r)
@@ -97,6 +98,10 @@ refused-as m r = by (either-large r)
 
 pub acts-as-codes : ActsAsCodes stepOf
 acts-as-codes = record { same = same-step; large = large-step; refused = refused-as }
+
+pub first-acts-as-one : FirstActsAsOne stepOf
+unfolding stepOf
+first-acts-as-one m p = ap (turnedBy m) (first-says-one p)
 
 -- ---- what is held
 profile-kept : (m : Model) (p : Profile) → HoldsProfile (closedBy m (openedAs p) .model) p

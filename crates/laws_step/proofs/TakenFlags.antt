@@ -16,7 +16,7 @@ use Rattle.step_flags.specs.Edges.{seenOf, edgesOf}
 use Rattle.step_flags.specs.declared.between.Seen.{Seen}
 use Rattle.settle_all.specs.Settle.{forcedOf, settledOf, settleOf}
 use Rattle.settle_all.specs.Gather.{testsOf}
-use Rattle.settle_all.proofs.Once.{settles-once}
+use Rattle.settle_all.proofs.Rules.{each-settles-once}
 use Rattle.step_kinds.specs.Answers.{Outcome}
 use Rattle.step_kinds.specs.Finish.{observing, keptBy, finishOf}
 use Rattle.step_turns.specs.Turns.{turnOf}
@@ -38,7 +38,7 @@ step-settles m e s none on = by (comes m e) none on
     again written observed flags on =
         let same : withFlags (settleOf written observed) flags ≡ s = cc in
         subst (λ (t : State). settleOf t false ≡ t) same
-        (flagged-settles (settleOf written observed) flags false ∙ ap (λ (t : State). withFlags t flags) (settles-once written observed))
+        (flagged-settles (settleOf written observed) flags false ∙ ap (λ (t : State). withFlags t flags) (each-settles-once .ours written observed))
 
     by : {o : Outcome} → Comes m o → o .number ≡ 0 → o .model ≡ On s → settleOf s false ≡ s
     by (refuses r) none on = absurd (omega (arith, some-number r))

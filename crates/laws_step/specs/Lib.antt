@@ -5,3 +5,4 @@ pub mod Rows
 pub mod Theorems
 pub mod Powered
 pub mod Observed
+pub mod Editions

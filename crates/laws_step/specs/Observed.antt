@@ -15,7 +15,7 @@ use Rattle.step_kinds.specs.Answers.{Outcome}
 abbrev pub EqualActAsFive : (Model → Event → Outcome) → Type 0
 EqualActAsFive step = (m : Model) (x : SpelledSample) → step m (ObserveTwo (record { sample = x; second = x .ts })) ≡ step m (Observe x)
 
--- it doesn't matter which thermistor is which: with its two values in each other's place an observation comes to the same, but that they are so in the sample that is then held
+-- it doesn't matter which thermistor is which: with its two values in each other's place, on a model that holds their bands so, an observation comes to the same, but that values and bands are then held so
 abbrev pub exchangedTwo : SpelledTwo → SpelledTwo
 exchangedTwo t =
     let s = t .sample in
@@ -33,7 +33,7 @@ pub record SameOtherWay (one other : Outcome) : Type 0 where
   pub model : one .number ≡ 0 → other .model ≡ heldOtherWay (one .model)
 
 abbrev pub ExchangedActAlike : (Model → Event → Outcome) → Type 0
-ExchangedActAlike step = (m : Model) (t : SpelledTwo) → SameOtherWay (step m (ObserveTwo t)) (step m (ObserveTwo (exchangedTwo t)))
+ExchangedActAlike step = (m : Model) (t : SpelledTwo) → SameOtherWay (step m (ObserveTwo t)) (step (heldOtherWay m) (ObserveTwo (exchangedTwo t)))
 
 -- what is held after an accepted observation is what its own numbers say, both thermistors' among them
 abbrev pub HoldsSample : Model → Sample → Type 0

@@ -13,7 +13,8 @@ use Rattle.state_parts.specs.declared.state.Model.{Model}
 use Rattle.state_parts.specs.declared.state.Model.the-variants.{Off, On}
 use Rattle.log_event.specs.declared.Event.{Event}
 use Rattle.log_raw.specs.declared.RawBytes.{RawBytes}
-use Rattle.log_event.specs.declared.Event.the-variants.{PowerOn, Set, Write, Observe, PowerOnResistors, ObserveTwo, WriteRun, ReadFlags}
+use Rattle.log_event.specs.declared.Event.the-variants.{PowerOn, Set, Write, Observe, PowerOnResistors, ObserveTwo, PowerOnEdition, WriteRun, ReadFlags}
+use Rattle.log_event.specs.declared.spelled.SpelledEdition.{SpelledEdition}
 use Rattle.log_event.specs.declared.spelled.SpelledProfile.{SpelledProfile}
 use Rattle.log_event.specs.declared.spelled.SpelledResistors.{SpelledResistors}
 use Rattle.log_event.specs.declared.spelled.SpelledSample.{SpelledSample}
@@ -48,6 +49,11 @@ pub record ResistorsIn (r : SpelledResistors) : Type 0 where
   pub fast : r .fast ≤ 172800
   pub watchdog : r .watchdog ≤ 172800
 
+-- 02, R-8: "kind 11 is kind 1 with an edition number 1 or 2"; "another edition number is 5"
+pub record EditionIn (v : SpelledEdition) : Type 0 where
+  pub profile : ProfileIn (v .profile)
+  pub edition : (v .edition ≡ 1) ⊎ (v .edition ≡ 2)
+
 -- "5 observe | stamp; VIN, VBAT 0-45,000; IBAT -10,000 to 5,000; TS 0-100,000; bits 0-63"
 pub record SampleIn (x : SpelledSample) : Type 0 where
   pub input : x .input ≤ 45000
@@ -65,12 +71,14 @@ pub record TwoIn (t : SpelledTwo) : Type 0 where
 pub data PowersOn : Event → Type 0 where
   by-codes : (p : SpelledProfile) → PowersOn (PowerOn p)
   by-resistors : (r : SpelledResistors) → PowersOn (PowerOnResistors r)
+  by-edition : (v : SpelledEdition) → PowersOn (PowerOnEdition v)
 
 pub data Row : ℕ → Model → Event → Type 0 where
   -- 5: "a number outside kind 1, 3 or 5's ranges above, or a handed-in model's field outside what it may hold"
   bad-field : (s : State) (e : Event) → stateOk s ≢ true → Row 5 (On s) e
   bad-profile : (m : Model) (p : SpelledProfile) → ¬ ProfileIn p → Row 5 m (PowerOn p)
   bad-resistors : (m : Model) (r : SpelledResistors) → ¬ ResistorsIn r → Row 5 m (PowerOnResistors r)
+  bad-edition : (m : Model) (v : SpelledEdition) → ¬ EditionIn v → Row 5 m (PowerOnEdition v)
   bad-byte : (s : State) (address byte : ℕ) → Among address 0x15 0x1C → 255 < byte → Row 5 (On s) (Write address byte)
   bad-sample : (s : State) (x : SpelledSample) → ¬ SampleIn x → Row 5 (On s) (Observe x)
   bad-two : (s : State) (t : SpelledTwo) → ¬ TwoIn t → Row 5 (On s) (ObserveTwo t)

@@ -16,7 +16,8 @@ use Rattle.settle_levels.specs.Voltage.{rechargeShareAt}
 use Rattle.laws_account.specs.History.{Run}
 use Rattle.laws_account.specs.Held.{profileOf, sampleOf, fieldAt}
 use Rattle.laws_account.specs.Valued.{settingOf}
-use Rattle.laws_account.specs.Judged.{vbat, Thermistor, firstTs, secondTs, tsBandAt, bandAt, suspendedIn, suspended, chargeVoltage, tapering, rechargeDue}
+use Rattle.laws_account.specs.Judged.{vbat, suspendedIn, suspended, chargeVoltage, tapering, rechargeDue}
+use Rattle.laws_account.specs.Bands.{Thermistor, firstTs, secondTs, tsBandAt, bandAt}
 use Rattle.laws_account.specs.Refused.{Accepted}
 use Rattle.laws_account.proofs.Judging.{joined-table}
 use Rattle.laws_third.specs.Banded.{InTsBand, Either, CoolBesideWarm, InBand, ByBand, OneBand, SuspendingIn, Suspending, chargeTo, Tapering, BelowRecharge, AtVoltage}

@@ -6,7 +6,7 @@ use Rattle.state_parts.specs.declared.profile.Profile.{Profile}
 use Rattle.log_event.specs.declared.Event.{Event}
 use Rattle.log_event.specs.declared.Event.the-variants as event
 use Rattle.state_valid.specs.Holds.{profileOk, sampleOk}
-use Rattle.step_turns.specs.Ranges.{profileInRange, sampleInRange, twoInRange}
+use Rattle.step_turns.specs.Ranges.{profileInRange, editionInRange, sampleInRange, twoInRange}
 use Rattle.step_turns.specs.Begins.{byCodes}
 use Rattle.step_turns.specs.Sampled.{bySample}
 use Rattle.step_turns.specs.Turns.{turnOf}
@@ -28,8 +28,12 @@ eventFor Reset = event.Reset
 eventFor (WriteRun first raw) = event.WriteRun first raw
 eventFor (ReadFlags address) = event.ReadFlags address
 
-opens : (p : Profile) → profileOk p ≡ true → turnOf (event.PowerOn (byCodes p)) ≡ Opens p
-unfolding turnOf profileInRange profileOk
+-- a power-on that says all of a profile
+abbrev powerOn : Profile → Event
+powerOn p = event.PowerOnEdition (record { profile = byCodes p; edition = p .edition })
+
+opens : (p : Profile) → profileOk p ≡ true → turnOf (powerOn p) ≡ Opens p
+unfolding turnOf profileInRange editionInRange profileOk
 opens p h = rw h
 
 follows : (e : Later) → LaterFits e → turnOf (eventFor e) ≡ Follows e
@@ -48,7 +52,7 @@ unfolding pastOf
 past-more [] h e = refl
 past-more (f ∷ es) h e = past-more es (nextOf h f) e
 
-opened : (p : Profile) → profileOk p ≡ true → pastOf none (event.PowerOn (byCodes p) ∷ []) ≡ some (powered p)
+opened : (p : Profile) → profileOk p ≡ true → pastOf none (powerOn p ∷ []) ≡ some (powered p)
 unfolding pastOf nextOf
 opened p h = ap (λ t. nextBy none t) (opens p h)
 
@@ -57,7 +61,7 @@ unfolding nextOf
 followed r e fits h = ap (λ t. nextBy (some r) t) (follows e fits) ∙ rw h
 
 pub every-run-left : EveryRunLeft
-every-run-left (powered p) a = (event.PowerOn (byCodes p) ∷ [], opened p a)
+every-run-left (powered p) a = (powerOn p ∷ [], opened p a)
 every-run-left (r ▸ e) a =
     let before = every-run-left r (a .0) in
     (before .0 ++ (eventFor e ∷ []), past-more (before .0) none (eventFor e) ∙ ap (λ h. nextOf h (eventFor e)) (before .1) ∙ followed r e (a .1 .0) (a .1 .1))

@@ -4,6 +4,7 @@ pub mod Positions
 pub mod Packs
 pub mod TsBands
 pub mod Bands
+pub mod Editions
 pub mod Crossings
 pub mod Charges
 pub mod Ended

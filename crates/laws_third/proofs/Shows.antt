@@ -9,14 +9,16 @@ use Rattle.state_parts.specs.declared.phase.Phase.{Phase}
 use Rattle.state_parts.specs.declared.phase.Phase.the-variants.{Idle, Trickle, Precharge, Fast, Taper, Done, Suspended, Fault}
 use Rattle.settle_levels.specs.Voltage.{chargeVoltageOf}
 use Rattle.state_parts.specs.Stages.{charging}
-use Rattle.report_state.specs.Report.{trickleCurrent, currentIn, reportOf}
+use Rattle.report_state.specs.Report.{trickleCurrent, currentIn, reportOf, fastCurrent}
 use Rattle.laws_account.specs.History.{Run}
 use Rattle.laws_account.specs.Held.{profileOf}
 use Rattle.laws_account.specs.Valued.{settingOf}
-use Rattle.laws_account.specs.Judged.{bandAt}
+use Rattle.laws_account.specs.Bands.{bandsAt, bandAt}
 use Rattle.laws_account.specs.Cycles.{phaseAt}
 use Rattle.laws_account.specs.Reported.{fastAt}
-use Rattle.laws_account.proofs.Judging.{voltage-is}
+use Rattle.laws_account.proofs.Judging.{voltage-is, pack-is}
+use Rattle.settle_bands.specs.Joined.{packBand}
+use Rattle.state_parts.specs.declared.band.Band.{Band}
 use Rattle.laws_account.proofs.Reports.{fast-is}
 use Rattle.laws_account.specs.States.{settingsAt, registersAt, stateBy, stateOf}
 use Rattle.laws_account.specs.Refused.{Accepted}
@@ -27,10 +29,11 @@ use Rattle.laws_third.proofs.Charges.{stage}
 -- the account's share, cut and amounts are those of the report
 pub current-is : (r : Run) → reportOf (stateOf r) .current ≡ currentIn (phaseAt r) (trickleCurrent (profileOf r)) (settingOf 3 r) (fastAt r)
 unfolding reportOf stateBy settingsAt
-current-is r = ap (currentIn (phaseAt r) (trickleCurrent (profileOf r)) (settingOf 3 r)) (fast-is r)
+current-is r =
+    ap (currentIn (phaseAt r) (trickleCurrent (profileOf r)) (settingOf 3 r)) (ap (fastCurrent (profileOf r) (settingsAt r) (registersAt r)) (pack-is r) ∙ fast-is r)
 
-charge-is : (r : Run) → Accepted r → millivoltsOf (chargeVoltageOf (profileOf r) (settingsAt r) (registersAt r) (bandAt r)) ≡ chargeTo (bandAt r) r
-charge-is r a = ap millivoltsOf (voltage-is r) ∙ voltage-plain r a
+charge-is : (r : Run) → Accepted r → millivoltsOf (chargeVoltageOf (profileOf r) (settingsAt r) (registersAt r) (packBand (bandsAt r))) ≡ chargeTo (bandAt r) r
+charge-is r a = ap (λ (b : Band). millivoltsOf (chargeVoltageOf (profileOf r) (settingsAt r) (registersAt r) b)) (pack-is r) ∙ ap millivoltsOf (voltage-is r) ∙ voltage-plain r a
 
 abbrev pub chargeAt : Run → ℕ
 chargeAt r = chargeTo (bandAt r) r
@@ -40,8 +43,8 @@ volts r = millivoltsOf (reportOf (stateOf r) .voltage)
 
 pub volts-are : (r : Run) → Accepted r → (t : Bool) → charging (phaseAt r) ≡ t → volts r ≡ pick t (chargeAt r) 0
 unfolding reportOf stateBy
-volts-are r a true e = ap (λ b. millivoltsOf (pick b (chargeVoltageOf (profileOf r) (settingsAt r) (registersAt r) (bandAt r)) (packOf 0))) e ∙ charge-is r a
-volts-are r a false e = ap (λ b. millivoltsOf (pick b (chargeVoltageOf (profileOf r) (settingsAt r) (registersAt r) (bandAt r)) (packOf 0))) e
+volts-are r a true e = ap (λ b. millivoltsOf (pick b (chargeVoltageOf (profileOf r) (settingsAt r) (registersAt r) (packBand (bandsAt r))) (packOf 0))) e ∙ charge-is r a
+volts-are r a false e = ap (λ b. millivoltsOf (pick b (chargeVoltageOf (profileOf r) (settingsAt r) (registersAt r) (packBand (bandsAt r))) (packOf 0))) e
 
 pub volts-most : (r : Run) → Accepted r → (t : Bool) → charging (phaseAt r) ≡ t → volts r ≤ chargeAt r
 volts-most r a true e = omega (arith, volts-are r a true e)

@@ -12,7 +12,7 @@ use Rattle.settle_levels.proofs.Points.{highest-share, share-below-taper}
 use Rattle.laws_account.specs.History.{Run}
 use Rattle.laws_account.specs.Held.{profileOf, sampleOf}
 use Rattle.laws_account.specs.Valued.{settingOf, pinFault}
-use Rattle.laws_account.specs.Judged.{bandAt}
+use Rattle.laws_account.specs.Bands.{bandAt}
 use Rattle.laws_account.specs.Refused.{Accepted}
 use Rattle.laws_account.specs.States.{settingsAt, registersAt, stateBy}
 use Rattle.laws_account.proofs.Judging.{voltage-is, fault-is}

@@ -14,7 +14,8 @@ use Rattle.laws_account.specs.History.{Run}
 use Rattle.log_event.specs.declared.Event.{Event}
 use Rattle.laws_account.specs.Held.{profileOf, ichg, overridden}
 use Rattle.laws_account.specs.Valued.{settingOf}
-use Rattle.laws_account.specs.Judged.{chargeClamp, bandAt, shareIn, short, low, tapering}
+use Rattle.laws_account.specs.Judged.{chargeClamp, shareIn, short, low, tapering}
+use Rattle.laws_account.specs.Bands.{bandAt}
 use Rattle.laws_account.specs.Cycles.{phaseAt}
 use Rattle.laws_account.specs.Refused.{Accepted, Past, none, nextOf, pastOf}
 use Rattle.laws_account.specs.States.{stateOf, modelOf}

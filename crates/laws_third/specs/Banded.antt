@@ -1,4 +1,4 @@
--- Demand 3, the temperature band: which one holds by the moment's own two TS values, and what goes by it.
+-- Demand 3, the temperature band: which one holds by the moments at which the two TS values crossed the thresholds, and what goes by it.
 use Prim.Native.Nat.{ℕ, _+_, _*_, _-_, _%_, _≤_, _<_}
 use mathlib.Core.Path.{_≡_}
 use mathlib.Core.Logic.{_⊎_, _↔_}
@@ -6,38 +6,54 @@ use Rattle.state_parts.specs.declared.band.Band.{Band}
 use Rattle.state_parts.specs.declared.band.Band.the-variants.{Normal, Cold, Cool, Warm, Hot, Mixed}
 use Rattle.state_parts.specs.declared.band.TsBand.{TsBand}
 use Rattle.state_parts.specs.declared.band.TsBand.the-variants as ts
-use Rattle.state_table.specs.Rows.{enTs, enJeita, tsTh1, tsTh2, tsTh3, tsTh5, jeitaIsetc, jeitaVset}
-use Rattle.settle_bands.specs.Thresholds.{th1At, th2At, th3At, th5At}
+use Rattle.state_table.specs.Rows.{enTs, enJeita, jeitaIsetc, jeitaVset}
 use Rattle.settle_levels.specs.Voltage.{rechargeShareAt}
-use Rattle.laws_account.specs.History.{Run}
+use Rattle.laws_account.specs.History.{Run, Since}
 use Rattle.laws_account.specs.Held.{profileOf, sampleOf, cellsOf, fieldAt}
 use Rattle.laws_account.specs.Valued.{settingOf}
-use Rattle.laws_account.specs.Judged.{Thermistor, firstTs, secondTs, tsOf, tsBandAt, bandAt, cutIn}
+use Rattle.laws_account.specs.Judged.{cutIn}
+use Rattle.laws_account.specs.Bands.{Thermistor, firstTs, secondTs, th1, th2, th3, th5, margin, tsAt, tsBandAt, bandAt}
 use Rattle.laws_third.specs.Crossed.{base}
 
--- "EN_TS 0 normal; TS >= TH1 cold; TS <= TH5 hot; with EN_JEITA: TS >= TH2 cool; TS <= TH3 warm"
-abbrev pub Unjudged : Run → Type 0
-Unjudged m = fieldAt enTs m ≡ 0
+-- "EN_TS 0 normal", "with EN_JEITA": whether a moment judges bands, and cool and warm too
+abbrev pub Judged : Run → Type 0
+Judged m = ¬ (fieldAt enTs m ≡ 0)
 
-abbrev pub FromTh1 : Thermistor → Run → Type 0
-FromTh1 k m = th1At (profileOf m) (fieldAt tsTh1 m) ≤ tsOf k (sampleOf m)
+abbrev pub Jeita : Run → Type 0
+Jeita m = fieldAt enJeita m ≡ 1
 
-abbrev pub ToTh5 : Thermistor → Run → Type 0
-ToTh5 k m = tsOf k (sampleOf m) ≤ th5At (profileOf m) (fieldAt tsTh5 m)
+module _ (k : Thermistor) where
+  -- 02, R-8: "a band other than normal, once entered, held until TS is 1,000 units or more back past the threshold that let it in, for each thermistor by itself. Cold and hot are entered at
+  -- once." At some moment up to now TS was at TH1 or above, and at every moment after it above TH1 - 1,000, with EN_TS throughout; the thresholds are those of each moment
+  abbrev pub InCold : Run → Type 0
+  InCold = Since (λ m. Judged m × (th1 m < tsAt k m + margin m)) (λ m. Judged m × (th1 m ≤ tsAt k m))
 
-abbrev pub FromTh2 : Thermistor → Run → Type 0
-FromTh2 k m = (fieldAt enJeita m ≡ 1) × (th2At (profileOf m) (fieldAt tsTh2 m) ≤ tsOf k (sampleOf m))
+  -- the same at TH5 or below, and below TH5 + 1,000
+  abbrev pub InHot : Run → Type 0
+  InHot = Since (λ m. Judged m × (tsAt k m < th5 m + margin m)) (λ m. Judged m × (tsAt k m ≤ th5 m))
 
-abbrev pub ToTh3 : Thermistor → Run → Type 0
-ToTh3 k m = (fieldAt enJeita m ≡ 1) × (tsOf k (sampleOf m) ≤ th3At (profileOf m) (fieldAt tsTh3 m))
+  -- neither of these, and with EN_JEITA: "EN_JEITA 0 [ends] that of cool and warm"
+  pub record Mild (m : Run) : Type 0 where
+    pub cold : ¬ InCold m
+    pub hot : ¬ InHot m
+    pub judged : Judged m
+    pub jeita : Jeita m
 
--- "Band, first that holds: ..; else normal.": of one thermistor, each with what comes before it denied
+  -- at some moment up to now TS was at TH2 or above, and at every moment after it above TH2 - 1,000, all of them mild
+  abbrev pub InCool : Run → Type 0
+  InCool = Since (λ m. Mild m × (th2 m < tsAt k m + margin m)) (λ m. Mild m × (th2 m ≤ tsAt k m))
+
+  -- the same at TH3 or below, and below TH3 + 1,000
+  abbrev pub InWarm : Run → Type 0
+  InWarm = Since (λ m. Mild m × (tsAt k m < th3 m + margin m)) (λ m. Mild m × (tsAt k m ≤ th3 m))
+
+-- "else normal"
 abbrev pub InTsBand : TsBand → Thermistor → Run → Type 0
-InTsBand ts.Cold k m = (¬ Unjudged m) × FromTh1 k m
-InTsBand ts.Hot k m = (¬ Unjudged m) × (¬ FromTh1 k m) × ToTh5 k m
-InTsBand ts.Cool k m = (¬ Unjudged m) × (¬ FromTh1 k m) × (¬ ToTh5 k m) × FromTh2 k m
-InTsBand ts.Warm k m = (¬ Unjudged m) × (¬ FromTh1 k m) × (¬ ToTh5 k m) × (¬ FromTh2 k m) × ToTh3 k m
-InTsBand ts.Normal k m = Unjudged m ⊎ ((¬ FromTh1 k m) × (¬ ToTh5 k m) × (¬ FromTh2 k m) × (¬ ToTh3 k m))
+InTsBand ts.Cold k m = InCold k m
+InTsBand ts.Hot k m = InHot k m
+InTsBand ts.Cool k m = InCool k m
+InTsBand ts.Warm k m = InWarm k m
+InTsBand ts.Normal k m = (¬ InCold k m) × (¬ InHot k m) × (¬ InCool k m) × (¬ InWarm k m)
 
 -- one band holds of each thermistor at each moment: the account's
 abbrev pub OneTsBand : Type 0

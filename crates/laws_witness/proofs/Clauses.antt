@@ -18,7 +18,8 @@ use Rattle.settle_bands.specs.Joined.{isBand}
 use Rattle.laws_account.specs.History.{Run, since, sumAfter, count, upTo}
 use Rattle.laws_account.specs.Held.{profileOf, sampleOf, elapsed, wasObserved, wasReset, wasServed, unserved, expired, ichg, overridden, cellsOf, fieldAt}
 use Rattle.laws_account.specs.Valued.{pinFault, startValue, settingOf}
-use Rattle.laws_account.specs.Judged.{vbat, packClamp, baseAt, inputOk, inputOver, inputGood, short, low, packOver, firstTs, secondTs, tsBandAt, bandAt, suspended, chargeVoltage, permitted, tapering, rechargeDue, ending}
+use Rattle.laws_account.specs.Judged.{vbat, packClamp, baseAt, inputOk, inputOver, inputGood, short, low, packOver, suspended, chargeVoltage, permitted, tapering, rechargeDue, ending}
+use Rattle.laws_account.specs.Bands.{firstTs, secondTs, coldAt, hotAt, coolAt, warmAt, tsBandAt, bandAt}
 use Rattle.laws_account.specs.Cycles.{trickle, precharge, fast, limitOf, reaches, unitsAfter, gave, isDone, wasDone, restarts, starts, timeIn, timeFound, limitFound, fault, chargeEnds, phaseBy, limitReached, phasesOf, phaseAt}
 use Rattle.laws_account.specs.Refused.{Accepted, refusalIn}
 use Rattle.laws_third.specs.Banded.{InBand}
@@ -31,8 +32,8 @@ use Rattle.laws_third.proofs.Allowing.{allowed, allowed-means, fault-means, may
 use Rattle.laws_third.proofs.Cycling.{was-means, reached-means, within-means, restarts-means, starts-means, ends-means, done-means}
 use Rattle.laws_third.proofs.Charges.{faulty, chargesAt}
 use Rattle.laws_third.proofs.Charging.{tests-mean}
-use Rattle.laws_witness.specs.Days.{day, slow, unattended, beside, packs, inputs, stays, warm}
-use Rattle.laws_witness.specs.Clauses.{Part, goodInput, permission, noFault, noSuspension, notDone, noLimit, partOf, Stop, lacks, coolBesideWarm, lacking, stopped, placeOf, Clause, part, okInput, overInput, shorted, lowPack, overPack, tapers, belowRecharge, atVoltage, atEnd, banded, reached, restarted, started, ends, ended, staysDone, charges, inTrickle, inPrecharge, otherwise, clamped, clauseOf, meeting, failing, EachTried, EachAlone}
+use Rattle.laws_witness.specs.Days.{day, slow, unattended, beside, turning, packs, inputs, stays, warm}
+use Rattle.laws_witness.specs.Clauses.{Part, goodInput, permission, noFault, noSuspension, notDone, noLimit, partOf, Stop, lacks, coolBesideWarm, lacking, stopped, placeOf, Clause, part, okInput, overInput, shorted, lowPack, overPack, tapers, belowRecharge, atVoltage, atEnd, lasting, banded, reached, restarted, started, ends, ended, staysDone, charges, inTrickle, inPrecharge, otherwise, clamped, clauseOf, meeting, failing, EachTried, EachAlone}
 use Rattle.laws_witness.proofs.Accepting.{accepts, accepts-means}
 
 -- the test of each part and of each clause
@@ -80,6 +81,7 @@ test tapers r = tapering r
 test belowRecharge r = rechargeDue r
 test atVoltage r = leb (millivoltsOf (chargeVoltage r)) (sampleOf r .pack)
 test (atEnd k b) r = isBand b (tsBandAt k r)
+test (lasting k b) r = isBand b (tsBandAt k r)
 test (banded b) r = eqb (bandNumber (bandAt r)) (bandNumber b)
 test restarted r = restartsNow r
 test started r = starts phaseAt r
@@ -104,6 +106,7 @@ means tapers r a = tapering-means r a
 means belowRecharge r a = recharge-means r a
 means atVoltage r a = voltage-means r a
 means (atEnd k b) r a = is-means b k r
+means (lasting k b) r a = is-means b k r
 means (banded b) r a = band-means b r
 means (reached s) r a = reached-means s r a
 means restarted r a = restarts-means r a
@@ -128,7 +131,7 @@ Computed c =
     (test c (meeting c) ≡ true) × (test c (failing c) ≡ false) × (accepts (meeting c) ≡ true) × (accepts (failing c) ≡ true)
 
 computed : (c : Clause) → Computed c
-unfolding day slow unattended beside packs inputs stays warm inPack belowShare since sumAfter count upTo profileOf sampleOf elapsed wasObserved wasReset wasServed unserved expired cellsOf fieldAt pinFault startValue settingOf vbat packClamp baseAt inputOk inputOver inputGood short low packOver tsBandAt bandAt suspended chargeVoltage permitted tapering rechargeDue ending unitsAfter gave isDone wasDone restarts starts timeIn timeFound limitFound fault chargeEnds phaseBy limitReached phasesOf phaseAt accepts refusalIn profileOk sampleOk rangeOf ranges
+unfolding day slow unattended beside turning packs inputs stays warm inPack belowShare since sumAfter count upTo profileOf sampleOf elapsed wasObserved wasReset wasServed unserved expired cellsOf fieldAt pinFault startValue settingOf vbat packClamp baseAt inputOk inputOver inputGood short low packOver coldAt hotAt coolAt warmAt tsBandAt bandAt suspended chargeVoltage permitted tapering rechargeDue ending unitsAfter gave isDone wasDone restarts starts timeIn timeFound limitFound fault chargeEnds phaseBy limitReached phasesOf phaseAt accepts refusalIn profileOk sampleOk rangeOf ranges
 computed (part goodInput) = (refl, refl, refl, refl)
 computed (part permission) = (refl, refl, refl, refl)
 computed (part noFault) = (refl, refl, refl, refl)
@@ -153,6 +156,16 @@ computed (atEnd secondTs ts.Cold) = (refl, refl, refl, refl)
 computed (atEnd secondTs ts.Cool) = (refl, refl, refl, refl)
 computed (atEnd secondTs ts.Warm) = (refl, refl, refl, refl)
 computed (atEnd secondTs ts.Hot) = (refl, refl, refl, refl)
+computed (lasting firstTs ts.Normal) = (refl, refl, refl, refl)
+computed (lasting firstTs ts.Cold) = (refl, refl, refl, refl)
+computed (lasting firstTs ts.Cool) = (refl, refl, refl, refl)
+computed (lasting firstTs ts.Warm) = (refl, refl, refl, refl)
+computed (lasting firstTs ts.Hot) = (refl, refl, refl, refl)
+computed (lasting secondTs ts.Normal) = (refl, refl, refl, refl)
+computed (lasting secondTs ts.Cold) = (refl, refl, refl, refl)
+computed (lasting secondTs ts.Cool) = (refl, refl, refl, refl)
+computed (lasting secondTs ts.Warm) = (refl, refl, refl, refl)
+computed (lasting secondTs ts.Hot) = (refl, refl, refl, refl)
 computed (banded Normal) = (refl, refl, refl, refl)
 computed (banded Cold) = (refl, refl, refl, refl)
 computed (banded Cool) = (refl, refl, refl, refl)
@@ -194,7 +207,7 @@ abbrev others : ℕ → List Bool
 others n = not (eqb n 0) ∷ not (eqb n 1) ∷ not (eqb n 2) ∷ not (eqb n 3) ∷ not (eqb n 4) ∷ not (eqb n 5) ∷ []
 
 stopped-tests : (c : Stop) → partTests (stopped c) ≡ others (placeOf (lacking c))
-unfolding day slow unattended beside packs inputs stays inPack belowShare since sumAfter count upTo profileOf sampleOf elapsed wasObserved wasReset wasServed unserved expired cellsOf fieldAt pinFault startValue settingOf vbat packClamp baseAt inputOk inputOver inputGood short low packOver tsBandAt bandAt suspended chargeVoltage permitted tapering rechargeDue ending unitsAfter gave isDone wasDone restarts starts timeIn timeFound limitFound fault chargeEnds phaseBy limitReached phasesOf phaseAt
+unfolding day slow unattended beside turning packs inputs stays inPack belowShare since sumAfter count upTo profileOf sampleOf elapsed wasObserved wasReset wasServed unserved expired cellsOf fieldAt pinFault startValue settingOf vbat packClamp baseAt inputOk inputOver inputGood short low packOver coldAt hotAt coolAt warmAt tsBandAt bandAt suspended chargeVoltage permitted tapering rechargeDue ending unitsAfter gave isDone wasDone restarts starts timeIn timeFound limitFound fault chargeEnds phaseBy limitReached phasesOf phaseAt
 stopped-tests (lacks goodInput) = refl
 stopped-tests (lacks permission) = refl
 stopped-tests (lacks noFault) = refl

@@ -2,3 +2,4 @@
 pub mod Accepting
 pub mod Rows
 pub mod Clauses
+pub mod Editions

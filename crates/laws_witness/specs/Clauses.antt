@@ -10,7 +10,7 @@ use Rattle.state_parts.specs.declared.band.TsBand.the-variants as ts
 use Rattle.laws_account.specs.History.{Run, _▸_}
 use Rattle.step_turns.specs.declared.later.Later.the-variants.{Set}
 use Rattle.laws_account.specs.Held.{ichg, overridden}
-use Rattle.laws_account.specs.Judged.{Thermistor, firstTs, secondTs}
+use Rattle.laws_account.specs.Bands.{Thermistor, firstTs, secondTs}
 use Rattle.laws_account.specs.Cycles.{Stage, trickle, precharge, fast}
 use Rattle.laws_account.specs.Refused.{Accepted}
 use Rattle.laws_third.specs.Crossed.{InputOk, InputOver, InputGood, Short, Low, PackOver}
@@ -18,7 +18,7 @@ use Rattle.laws_third.specs.Stages.{WasDone, Restarts, CycleStarts, Reached, En
 use Rattle.laws_third.specs.Banded.{InTsBand, InBand, Suspending, Tapering, BelowRecharge, AtVoltage}
 use Rattle.laws_third.specs.Allowed.{Permitted, Fault, Allowed}
 use Rattle.laws_third.specs.Demand.{Charging}
-use Rattle.laws_witness.specs.Days.{sees, dayAt, slow, unattended, beside, mild, packs, inputs, stays, warmAt}
+use Rattle.laws_witness.specs.Days.{holding, sees, dayAt, slow, unattended, beside, mild, turning, packs, inputs, stays, warmAt}
 
 -- "the input is good, charge is permitted, no fault or suspending temperature holds, the cycle isn't done, and no stage with a limit has reached it"
 pub data Part : Type 0 where
@@ -62,7 +62,7 @@ placeOf noLimit = 5
 pub data Clause : Type 0 where
   part : Part → Clause
   okInput overInput shorted lowPack overPack tapers belowRecharge atVoltage : Clause
-  atEnd : Thermistor → TsBand → Clause
+  atEnd lasting : Thermistor → TsBand → Clause
   banded : Band → Clause
   reached : Stage → Clause
   restarted started ends ended staysDone : Clause
@@ -79,6 +79,7 @@ clauseOf tapers r = Tapering r
 clauseOf belowRecharge r = BelowRecharge r
 clauseOf atVoltage r = AtVoltage r
 clauseOf (atEnd k b) r = InTsBand b k r
+clauseOf (lasting k b) r = InTsBand b k r
 clauseOf (banded b) r = InBand b r
 clauseOf (reached s) r = Reached s r
 clauseOf restarted r = Restarts r
@@ -112,6 +113,32 @@ abbrev pub onlyAt : Thermistor → TsBand → Run
 onlyAt firstTs b = beside (tsIn b) (tsOutside b)
 onlyAt secondTs b = beside (tsOutside b) (tsIn b)
 
+-- by the second edition: a TS that enters a band, one apart from it, and one to which both thermistors then come; there the one that was in the band still is, and the other isn't
+abbrev pub entering : TsBand → ℕ
+entering ts.Normal = 55000
+entering ts.Cold = 75320
+entering ts.Cool = 68250
+entering ts.Warm = 44750
+entering ts.Hot = 34375
+
+abbrev pub apart : TsBand → ℕ
+apart ts.Normal = 68250
+apart ts.Cold = 55000
+apart ts.Cool = 55000
+apart ts.Warm = 55000
+apart ts.Hot = 55000
+
+abbrev pub meanwhile : TsBand → ℕ
+meanwhile ts.Normal = 67251
+meanwhile ts.Cold = 74321
+meanwhile ts.Cool = 67251
+meanwhile ts.Warm = 45749
+meanwhile ts.Hot = 35374
+
+abbrev pub lastsAt : Thermistor → TsBand → Run
+lastsAt firstTs b = turning holding (entering b) (apart b) (meanwhile b) (meanwhile b)
+lastsAt secondTs b = turning holding (apart b) (entering b) (meanwhile b) (meanwhile b)
+
 abbrev pub otherEnd : Thermistor → Thermistor
 otherEnd firstTs = secondTs
 otherEnd secondTs = firstTs
@@ -128,6 +155,7 @@ meeting tapers = dayAt 4
 meeting belowRecharge = warmAt 7890 5
 meeting atVoltage = warmAt 7900 3
 meeting (atEnd k b) = onlyAt k b
+meeting (lasting k b) = lastsAt k b
 meeting (banded Normal) = mild (tsIn ts.Normal)
 meeting (banded Cold) = onlyAt secondTs ts.Cold
 meeting (banded Cool) = beside (tsIn ts.Cool) (tsIn ts.Normal)
@@ -159,6 +187,7 @@ failing tapers = dayAt 3
 failing belowRecharge = warmAt 7890 4
 failing atVoltage = warmAt 7890 3
 failing (atEnd k b) = onlyAt (otherEnd k) b
+failing (lasting k b) = lastsAt (otherEnd k) b
 failing (banded Normal) = beside (tsIn ts.Normal) (tsIn ts.Cool)
 failing (banded Cold) = mild (tsOutside ts.Cold)
 failing (banded Cool) = beside (tsIn ts.Cool) (tsIn ts.Warm)

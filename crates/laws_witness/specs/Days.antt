@@ -1,6 +1,7 @@
 -- Runs that go through every phase and come to each clause of demand 3.
 use Prim.Native.Nat.{ℕ}
 use lib.IntN.{pos}
+use Rattle.state_parts.specs.With.{withEdition}
 use Rattle.state_parts.specs.declared.profile.Profile.{Profile}
 use Rattle.laws_account.specs.History.{Run, powered, _▸_, upTo}
 use Rattle.step_turns.specs.declared.later.Later.{Later}
@@ -8,11 +9,15 @@ use Rattle.step_turns.specs.declared.later.Later.the-variants.{Set, Write, Obse
 
 -- two cells of 4,200 mV, pin 1,500 mA; limits of 30, 40 and 20 s
 abbrev pub pack : Profile
-pack = record { cell = 2; vchg = 5; ichg = 4; ohms = 0; stamp = 0; ceiling = 4500; trickle = 30; precharge = 40; fast = 20; watchdog = 0 }
+pack = record { cell = 2; vchg = 5; ichg = 4; ohms = 0; stamp = 0; ceiling = 4500; trickle = 30; precharge = 40; fast = 20; watchdog = 0; edition = 1 }
 
--- the same with pin 100 mA, no limit and a watchdog of 40 s
+-- the same by the second edition of the pack's sheet
+abbrev pub holding : Profile
+holding = withEdition pack 2
+
+-- the first with pin 100 mA, no limit and a watchdog of 40 s
 abbrev pub watched : Profile
-watched = record { cell = 2; vchg = 5; ichg = 1; ohms = 0; stamp = 0; ceiling = 4500; trickle = 0; precharge = 0; fast = 0; watchdog = 40 }
+watched = record { cell = 2; vchg = 5; ichg = 1; ohms = 0; stamp = 0; ceiling = 4500; trickle = 0; precharge = 0; fast = 0; watchdog = 40; edition = 1 }
 
 -- stamp, VIN, VBAT, IBAT, both TS and bits
 abbrev pub seesTwo : ℕ → ℕ → ℕ → ℕ → ℕ → ℕ → ℕ → Later
@@ -60,6 +65,14 @@ beside ts second = powered pack ▸ seesTwo 1000 12000 7000 500 ts second 0
 
 abbrev pub mild : ℕ → Run
 mild ts = beside ts ts
+
+-- two observations in fast with these TS of the first thermistor and of the second
+unfoldable pub turning : Profile → ℕ → ℕ → ℕ → ℕ → Run
+turning p ts second thenTs thenSecond = powered p ▸ seesTwo 1000 12000 7000 500 ts second 0 ▸ seesTwo 2000 12000 7000 500 thenTs thenSecond 0
+
+-- one for both, first and then another
+abbrev pub turns : Profile → ℕ → ℕ → Run
+turns p ts then = turning p ts ts then then
 
 -- VBAT first and then another
 unfoldable pub packs : ℕ → ℕ → Run

@@ -8,7 +8,7 @@ use Rattle.laws_account.specs.History.{Run, lastOf}
 use Rattle.laws_account.specs.Held.{expired}
 use Rattle.laws_account.specs.Cycles.{trickle, precharge, fast, numberAt, isDone, starts, timeIn, limitReached, phaseAt}
 use Rattle.laws_account.specs.Reported.{reportAt}
-use Rattle.laws_witness.specs.Days.{dayAt, slow, unattended, beside, mild, warmAt}
+use Rattle.laws_witness.specs.Days.{pack, holding, dayAt, slow, unattended, beside, mild, turning, turns, warmAt}
 
 -- phase, current and voltage; where the cycle started and each stage's time in it; done, a limit reached, the watchdog expired
 pub record Told : Type 0 where
@@ -92,6 +92,21 @@ rows =
     ∷ row (beside 40000 70000) 6 0 0 0 0 0 0 false false false
     ∷ row (beside 80000 30000) 6 0 0 0 0 0 0 false false false
     ∷ row (beside 55000 30000) 6 0 0 0 0 0 0 false false false
+    -- 02, R-8: by the second edition a band lasts until TS is 1,000 back past its threshold, and is then judged afresh: cold is left for cool, hot for warm, cool and warm for normal
+    ∷ row (turns holding 75320 74321) 6 0 0 0 0 0 0 false false false
+    ∷ row (turns holding 75320 74320) 3 300 8400 0 0 0 0 false false false
+    ∷ row (turns holding 34375 35374) 6 0 0 0 0 0 0 false false false
+    ∷ row (turns holding 34375 35375) 3 1500 8200 0 0 0 0 false false false
+    ∷ row (turns holding 68250 67251) 3 300 8400 0 0 0 2000 false false false
+    ∷ row (turns holding 68250 67250) 3 1500 8400 0 0 0 2000 false false false
+    ∷ row (turns holding 44750 45749) 3 1500 8200 0 0 0 2000 false false false
+    ∷ row (turns holding 44750 45750) 3 1500 8400 0 0 0 2000 false false false
+    -- cold is entered at once from cool, and each thermistor holds its own: one held cool beside one that turns warm suspends
+    ∷ row (turns holding 68250 75320) 6 0 0 0 0 0 2000 false false false
+    ∷ row (turning holding 68250 55000 67251 44750) 6 0 0 0 0 0 2000 false false false
+    -- the first edition holds nothing
+    ∷ row (turns pack 75320 74321) 3 300 8400 0 0 0 0 false false false
+    ∷ row (turns pack 68250 67251) 3 1500 8400 0 0 0 2000 false false false
     -- 02, R-1: warm at 7,890, 10 mV short of 7,900: taper, done and still done; back in normal the point is 8,148 and the band alone restarts the cycle
     ∷ row (warmAt 7890 2) 4 1500 7900 1 0 0 0 false false false
     ∷ row (warmAt 7890 3) 5 0 0 1 0 0 2000 true false false
