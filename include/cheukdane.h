@@ -64,15 +64,17 @@ typedef char cheukdane_size_t_has_64_bits[sizeof(size_t) == 8 ? 1 : -1];
  *   4  kind 9 is a power-on by its resistors, and not 4
  *   5  the model holds the stored fields of the whole register map, and every address can be read
  *   6  kind 8 is a run of written bytes and kind 14 a read of a flag register, and neither is 4
- *   7  kind 10 is an observation of two thermistors, and not 4 */
-#define CHEUKDANE_RULES 7
+ *   7  kind 10 is an observation of two thermistors, and not 4
+ *   8  kind 11 is a power-on that says the pack sheet's edition, and not 4; the model holds a band for each thermistor
+ */
+#define CHEUKDANE_RULES 8
 
 /* ---- Images ---- */
 
 /* The format of an image: it moves with the rules, so that no model is carried over from other rules. It is never 0. */
-#define CHEUKDANE_FORMAT 7
+#define CHEUKDANE_FORMAT 8
 
-/* Bytes of an image: 56 words. Word 0 is 0 before a power-on, and then all other words are 0 too; after it, it is the
+/* Bytes of an image: 58 words. Word 0 is 0 before a power-on, and then all other words are 0 too; after it, it is the
  * format's number, CHEUKDANE_FORMAT, and the state's numbers follow, from these words on; a yes or no is 1 or 0. So
  * zeroed bytes are the image of a model that is off, in every format. Every model has exactly one image, and bytes are
  * an image only if they are a model's: another format, a yes or no above 1, or a phase, band or flags that aren't, make
@@ -83,18 +85,20 @@ typedef char cheukdane_size_t_has_64_bits[sizeof(size_t) == 8 ? 1 : -1];
  * no checksum: bytes that were changed in storage load if they are some model's image, so whoever stores an image keeps
  * a checksum beside it. An image of another format, an older one too, is 5: such a head starts from zeroed bytes and
  * replays the log. */
-#define CHEUKDANE_IMAGE 224
-#define CHEUKDANE_PROFILE 1    /* a power-on's ten numbers, in kind 1's order; of kind 9 the codes, not the ohms */
-#define CHEUKDANE_SETTINGS 11  /* settings 1 to 14 */
-#define CHEUKDANE_REGISTERS 25 /* ten words, the stored fields of 0x00 to 0x27, four addresses to a word; CELL_PIN */
-#define CHEUKDANE_LATCHES 36   /* VIN ok, VIN over, short, low, battery over */
-#define CHEUKDANE_CYCLE 41     /* trickle, precharge and fast time in half milliseconds; done */
-#define CHEUKDANE_WATCHDOG 45  /* milliseconds since it was zeroed, at most its period */
-#define CHEUKDANE_SAMPLE 46    /* the last observation's seven numbers, in kind 10's order, of kind 5 its TS twice; its
+#define CHEUKDANE_IMAGE 232
+#define CHEUKDANE_PROFILE 1    /* a power-on's eleven numbers, in kind 11's order; of kinds 1 and 9 the edition is 1, of
+                                  kind 9 the codes, not the ohms */
+#define CHEUKDANE_SETTINGS 12  /* settings 1 to 14 */
+#define CHEUKDANE_REGISTERS 26 /* ten words, the stored fields of 0x00 to 0x27, four addresses to a word; CELL_PIN */
+#define CHEUKDANE_LATCHES 37   /* VIN ok, VIN over, short, low, battery over */
+#define CHEUKDANE_CYCLE 42     /* trickle, precharge and fast time in half milliseconds; done */
+#define CHEUKDANE_WATCHDOG 46  /* milliseconds since it was zeroed, at most its period */
+#define CHEUKDANE_SAMPLE 47    /* the last observation's seven numbers, in kind 10's order, of kind 5 its TS twice; its
                                   stamp is the last stamp */
-#define CHEUKDANE_PHASE 53     /* 0 to 7 */
-#define CHEUKDANE_BAND 54      /* 0 normal, 1 cold, 2 hot, 3 cool, 4 warm, 7 mixed; 5 and 6 are none */
-#define CHEUKDANE_FLAGS 55     /* the held flags, bits 0 to 11 */
+#define CHEUKDANE_PHASE 54     /* 0 to 7 */
+#define CHEUKDANE_BANDS 55     /* the first thermistor's band and the second's, each 0 normal, 1 cold, 2 hot, 3 cool, 4
+                                  warm */
+#define CHEUKDANE_FLAGS 57     /* the held flags, bits 0 to 11 */
 
 /* ---- Names for the paper's numbers ---- */
 
@@ -117,6 +121,8 @@ enum {
     CHEUKDANE_KIND_POWER_ON_RESISTORS = 9, /* as 1, with the CELL, VCHG and ICHG resistors in ohms for the codes */
     CHEUKDANE_KIND_OBSERVE_TWO = 10, /* as 5, with the second thermistor's TS right after the first's; with two equal
                                         ones it does what 5 does */
+    CHEUKDANE_KIND_POWER_ON_EDITION = 11, /* as 1, with the edition of the pack's sheet, 1 or 2, after the watchdog
+                                             period; with edition 1 it does what 1 does */
     CHEUKDANE_KIND_READ_FLAGS = 14 /* address of a flag register, 0x20 or 0x21; hands back its byte and clears its own
                                       flags */
 };
@@ -156,10 +162,20 @@ enum {
     CHEUKDANE_PHASE_FAULT = 7
 };
 
-/* Bands of the battery's temperature. Each of the two thermistors is in one of 0 to 4, by its TS and the registers 0x18
- * and 0x19. The band of both is cold if either is, else hot if either is; else mixed if one is cool and the other warm;
- * else that of the one that isn't normal, and normal if both are. Mixed suspends a charge, as cold and hot do, whatever
- * 0x19 says of cool and warm. CHEUKDANE_FLAG_BAND is a change of this band, and TS_STAT, 0x1E bits 2:0, its number. */
+/* Bands of the battery's temperature. Each of the two thermistors is in one of 0 to 4, judged at every accepted event
+ * by the registers 0x18 and 0x19 as they stand then.
+ *
+ * By the first edition of the pack's sheet it is the first of these that holds: normal with EN_TS 0, cold from TH1 up,
+ * hot from TH5 down and, with EN_JEITA, cool from TH2 up and warm from TH3 down; else normal. By the second a band
+ * other than normal that the thermistor is in stays while its TS is less than 1,000 back from that band's threshold
+ * (TH1 of cold, TH5 of hot, TH2 of cool, TH3 of warm), unless the first edition's judgement is cold or hot. EN_TS 0
+ * ends any such hold and EN_JEITA 0 that of cool and warm. What doesn't stay is the first edition's judgement. A
+ * register reset leaves the bands to be judged by what it restores; a power-on starts with normal.
+ *
+ * The band of both is cold if either is, else hot if either is; else mixed if one is cool and the other warm; else that
+ * of the one that isn't normal, and normal if both are. Mixed suspends a charge, as cold and hot do, whatever 0x19 says
+ * of cool and warm. CHEUKDANE_FLAG_BAND is a change of this band, and TS_STAT, 0x1E bits 2:0, its number; an image has
+ * no word of it. */
 enum {
     CHEUKDANE_BAND_NORMAL = 0,
     CHEUKDANE_BAND_COLD = 1,
@@ -287,7 +303,7 @@ enum {
 };
 
 /* Bytes of the longest record. */
-#define CHEUKDANE_RECORD 51
+#define CHEUKDANE_RECORD 56
 
 /* The word at an index of an image, of what is shown or of a report. */
 static inline uint32_t cheukdane_word(const uint8_t *bytes, size_t index) {

@@ -98,7 +98,8 @@ static void what_is_read(void) {
     holds(cheukdane_word(head.image, CHEUKDANE_PHASE) == CHEUKDANE_PHASE_FAST, "the image is in phase 3");
     holds(cheukdane_word(head.image, CHEUKDANE_SETTINGS) == 8400, "the image's VREG");
     holds(cheukdane_word(head.image, CHEUKDANE_SAMPLE) == 1000, "the image's last stamp");
-    holds(cheukdane_word(head.image, CHEUKDANE_BAND) == CHEUKDANE_BAND_NORMAL, "the image is in the normal band");
+    holds(in_bands(&head, CHEUKDANE_BAND_NORMAL, CHEUKDANE_BAND_NORMAL), "both thermistors are in the normal band");
+    holds(cheukdane_word(head.image, CHEUKDANE_PROFILE + 10) == 1, "the image's edition is the first");
     holds(cheukdane_word(head.image, CHEUKDANE_FLAGS) == 97, "the image's flags");
     shown(before, "report, STAT and image after it");
 }

@@ -35,7 +35,7 @@ void start(struct head *head) {
 }
 
 uint32_t does(struct head *head, const struct event *event, uint8_t *show) {
-    uint8_t words[40];
+    uint8_t words[44];
     size_t length = put_words(words, event->numbers, event->count);
     return does_words(head, event->kind, words, length, show);
 }
@@ -61,4 +61,9 @@ size_t play(struct head *head, const uint8_t *log, size_t length, size_t place) 
         }
         place = played.next;
     }
+}
+
+int in_bands(const struct head *head, uint32_t first, uint32_t second) {
+    return cheukdane_word(head->image, CHEUKDANE_BANDS) == first &&
+           cheukdane_word(head->image, CHEUKDANE_BANDS + 1) == second;
 }

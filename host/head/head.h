@@ -9,7 +9,7 @@ enum { LOG_ROOM = 1024 };
 struct event {
     uint32_t kind;
     size_t count;
-    uint32_t numbers[10];
+    uint32_t numbers[11];
 };
 
 /* A head: its model, and its log of what was done to it. */
@@ -44,6 +44,9 @@ uint32_t does_words(struct head *head, uint32_t kind, const uint8_t *words, size
 /* Plays a log from a place to its end. Gives the place at which it ended. */
 size_t play(struct head *head, const uint8_t *log, size_t length, size_t place);
 
+/* Whether a head's image has these bands, the first thermistor's and the second's. */
+int in_bands(const struct head *head, uint32_t first, uint32_t second);
+
 /* The paper's example log. */
 extern const uint8_t EXAMPLE[28];
 
@@ -55,6 +58,7 @@ void show_bad_images(void);
 void show_refusals(void);
 void show_resistors(void);
 void show_thermistors(void);
+void show_editions(void);
 void show_registers(void);
 void show_runs(void);
 

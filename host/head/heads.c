@@ -30,6 +30,10 @@ enum { EVENTS = sizeof MORNING / sizeof MORNING[0] };
 static const struct event BY_RESISTORS = {
     CHEUKDANE_KIND_POWER_ON_RESISTORS, 10, {5920, 13974, 10500, 6040, 0xFFFFFF00u, 4500, 3600, 7200, 36000, 160}};
 
+/* The same at a head whose log says the edition of the pack's sheet. */
+static const struct event BY_EDITION = {
+    CHEUKDANE_KIND_POWER_ON_EDITION, 11, {2, 5, 4, 6040, 0xFFFFFF00u, 4500, 3600, 7200, 36000, 160, 1}};
+
 static void two_heads_in_step(void) {
     int before = failures;
     struct head one, other;
@@ -114,28 +118,28 @@ static void heads_that_part(void) {
     shown(before, "two logs that part: 14, with record and offset");
 }
 
-/* One head is powered on by codes and the other by resistors, at the morning's start and again at its end. */
-static void heads_by_codes_and_by_resistors(void) {
+/* One head is powered on by codes and the other as said, at the morning's start and again at its end. */
+static void heads_by_codes_and_otherwise(const struct event *said, const char *what) {
     int before = failures;
     struct head one, other, late;
-    uint8_t show[CHEUKDANE_SHOWN], by_resistors[CHEUKDANE_SHOWN];
+    uint8_t show[CHEUKDANE_SHOWN], shown_otherwise[CHEUKDANE_SHOWN];
     start(&one);
     start(&other);
     for (size_t at = 0; at <= EVENTS; at++) {
         const struct event *event = &MORNING[at % EVENTS];
         int powers = event->kind == CHEUKDANE_KIND_POWER_ON;
         holds(does(&one, event, show) == 0, "the head by codes accepts each event");
-        holds(does(&other, powers ? &BY_RESISTORS : event, by_resistors) == 0, "and so does the head by resistors");
+        holds(does(&other, powers ? said : event, shown_otherwise) == 0, "and so does the other head");
         holds(same(one.image, other.image, sizeof one.image), "their images are equal after each event");
-        holds(same(show, by_resistors, sizeof show), "and what they show is");
+        holds(same(show, shown_otherwise, sizeof show), "and what they show is");
     }
     struct cheukdane_compared answer = cheukdane_compare(one.log, one.length, other.log, other.length);
     holds(answer.number == CHEUKDANE_REFUSED_LOGS_PART && answer.record == 1 && answer.place == 0,
           "their logs part all the same: records are compared as they are");
     start(&late);
     play(&late, other.log, other.length, 0);
-    holds(same(one.image, late.image, sizeof one.image), "a head that plays the log by resistors is in step with both");
-    shown(before, "a head powered on by resistors is in step with one by codes");
+    holds(same(one.image, late.image, sizeof one.image), "a head that plays the other's log is in step with both");
+    shown(before, what);
 }
 
 /* The event of two equal thermistors that stands for a morning's event of one; any other event as it is. */
@@ -177,6 +181,7 @@ void show_two_heads(void) {
     a_charge_is_seen();
     a_head_catches_up();
     heads_that_part();
-    heads_by_codes_and_by_resistors();
+    heads_by_codes_and_otherwise(&BY_RESISTORS, "a head powered on by resistors is in step with one by codes");
+    heads_by_codes_and_otherwise(&BY_EDITION, "a head that says the first edition is in step with one that says none");
     heads_of_one_thermistor_and_of_two();
 }

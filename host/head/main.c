@@ -9,6 +9,7 @@ int main(void) {
     show_refusals();
     show_resistors();
     show_thermistors();
+    show_editions();
     show_registers();
     show_runs();
     return failures != 0;

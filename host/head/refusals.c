@@ -93,18 +93,17 @@ static void short_buffers(void) {
     shown(before, "answer buffers of every length");
 }
 
-/* The longest record of a kind that has ten numbers. */
-static void longest_record(uint32_t kind) {
-    uint8_t words[40], out[CHEUKDANE_RECORD + 8], whole[CHEUKDANE_RECORD + 8];
-    const uint32_t most[10] = {0xFFFFFFFFu, 0xFFFFFFFFu, 0xFFFFFFFFu, 0xFFFFFFFFu, 0xFFFFFFFFu,
-                               0xFFFFFFFFu, 0xFFFFFFFFu, 0xFFFFFFFFu, 0xFFFFFFFFu, 0xFFFFFFFFu};
-    put_words(words, most, 10);
+/* The longest record of a kind that has so many numbers. */
+static void longest_record(uint32_t kind, size_t count) {
+    uint8_t words[44], out[CHEUKDANE_RECORD + 8], whole[CHEUKDANE_RECORD + 8];
+    size_t record = 1 + 5 * count;
+    memset(words, 0xFF, sizeof words);
     memset(whole, 0xEE, sizeof whole);
     for (size_t length = 0; length <= sizeof out; length++) {
         memset(out, 0xEE, sizeof out);
-        struct cheukdane_written written = cheukdane_write(kind, words, sizeof words, length ? out : NULL, length);
-        int fits = length >= CHEUKDANE_RECORD;
-        holds(written.number == (fits ? 0u : 12u) && written.count == (fits ? CHEUKDANE_RECORD : 0u),
+        struct cheukdane_written written = cheukdane_write(kind, words, 4 * count, length ? out : NULL, length);
+        int fits = length >= record;
+        holds(written.number == (fits ? 0u : 12u) && written.count == (fits ? record : 0u),
               "the longest record fits or is 12");
         holds(!fits || out[0] == kind, "it starts with its kind");
         holds(same(out + written.count, whole, sizeof whole - written.count), "bytes after a record stay");
@@ -114,13 +113,16 @@ static void longest_record(uint32_t kind) {
 static void short_records(void) {
     int before = failures;
     uint8_t words[40] = {0}, out[CHEUKDANE_RECORD];
-    longest_record(CHEUKDANE_KIND_POWER_ON);
-    longest_record(CHEUKDANE_KIND_POWER_ON_RESISTORS);
+    longest_record(CHEUKDANE_KIND_POWER_ON, 10);
+    longest_record(CHEUKDANE_KIND_POWER_ON_RESISTORS, 10);
+    longest_record(CHEUKDANE_KIND_POWER_ON_EDITION, 11);
+    holds(1 + 5 * 11 == CHEUKDANE_RECORD, "the longest of all has eleven numbers");
     holds(cheukdane_write(0, NULL, 0, out, sizeof out).number == 4, "kind 0 is 4");
     holds(cheukdane_write(8, NULL, 0, out, sizeof out).number == 5, "a run without words is 5");
     holds(cheukdane_write(14, NULL, 0, out, sizeof out).number == 5, "and so is a read of no address");
     holds(cheukdane_write(18, NULL, 0, out, sizeof out).number == 4, "kind 18 is 4");
     holds(cheukdane_write(10, words, 24, out, sizeof out).number == 5, "an observation of two of six numbers is 5");
+    holds(cheukdane_write(11, words, 40, out, sizeof out).number == 5, "a power-on of kind 11 with ten numbers is 5");
     holds(cheukdane_write(9, words, 36, out, sizeof out).number == 5, "a power-on by resistors of nine numbers is 5");
     holds(cheukdane_write(2, words, 4, out, sizeof out).number == 5, "a set of one number is 5");
     shown(before, "record buffers of every length, and events that aren't");
@@ -136,6 +138,9 @@ static void refusals(void) {
         {CHEUKDANE_KIND_POWER_ON_RESISTORS, 10, {6040, 100001, 10500, 0, 0, 4500, 0, 0, 0, 0}},
         {CHEUKDANE_KIND_POWER_ON_RESISTORS, 10, {6040, 13700, 0xFFFFFFFFu, 0, 0, 4500, 0, 0, 0, 0}},
         {CHEUKDANE_KIND_POWER_ON_RESISTORS, 10, {6040, 13700, 10500, 33001, 0, 4500, 0, 0, 0, 0}},
+        {CHEUKDANE_KIND_POWER_ON_EDITION, 11, {2, 5, 4, 0, 0, 4500, 0, 0, 0, 0, 0}},
+        {CHEUKDANE_KIND_POWER_ON_EDITION, 11, {2, 5, 4, 0, 0, 4500, 0, 0, 0, 0, 3}},
+        {CHEUKDANE_KIND_POWER_ON_EDITION, 11, {2, 5, 4, 0, 0, 4500, 0, 0, 0, 172801, 2}},
         {2, 2, {15, 0}},
         {2, 2, {1, 2405}},
         {3, 2, {0x14, 0}},
@@ -145,9 +150,9 @@ static void refusals(void) {
         {CHEUKDANE_KIND_OBSERVE_TWO, 7, {3601001, 0, 0, 0, 0, 0, 0}},
         {CHEUKDANE_KIND_OBSERVE_TWO, 7, {1000, 0, 0, 0, 55000, 100001, 0}},
     };
-    const uint32_t numbers[] = {5, 5, 5, 5, 5, 8, 9, 10, 5, 11, 7, 7, 5};
+    const uint32_t numbers[] = {5, 5, 5, 5, 5, 5, 5, 5, 8, 9, 10, 5, 11, 7, 7, 5};
     struct head head;
-    uint8_t show[CHEUKDANE_SHOWN], kept[CHEUKDANE_IMAGE], words[40], record[CHEUKDANE_RECORD];
+    uint8_t show[CHEUKDANE_SHOWN], kept[CHEUKDANE_IMAGE], words[44], record[CHEUKDANE_RECORD];
     start(&head);
     holds(does(&head, &service, show) == 6, "an event before a power-on is 6");
     play(&head, EXAMPLE, sizeof EXAMPLE, 0);

@@ -29,6 +29,13 @@ static uint32_t sees(struct head *head, uint32_t first, uint32_t second, uint8_t
     return does(head, &event, show);
 }
 
+static uint32_t ts_stat(const struct head *head) {
+    struct cheukdane_byte status =
+        cheukdane_register(head->image, sizeof head->image, CHEUKDANE_REGISTER_CHARGER_STATUS_2);
+    holds(status.number == 0, "the status can be read");
+    return status.byte;
+}
+
 /* A head after the example, its flags taken. */
 static void start_after_the_example(struct head *head) {
     const struct event take = {CHEUKDANE_KIND_TAKE_FLAGS, 0, {0}};
@@ -47,15 +54,15 @@ static void every_pair_of_bands(void) {
             uint32_t band = BOTH[first][second];
             start_after_the_example(&head);
             holds(sees(&head, OF_BAND[first], OF_BAND[second], show) == 0, "each pair is accepted");
-            holds(cheukdane_word(head.image, CHEUKDANE_BAND) == band, "the image has the band of both");
-            struct cheukdane_byte status = cheukdane_register(head.image, sizeof head.image, CHEUKDANE_REGISTER_CHARGER_STATUS_2);
-            holds(status.number == 0 && status.byte == band, "and so has TS_STAT");
+            holds(in_bands(&head, (uint32_t)first, (uint32_t)second), "the image has the band of each");
+            holds(ts_stat(&head) == band, "and TS_STAT that of both");
             int suspends = band == COLD || band == HOT || band == MIXED;
             holds(cheukdane_word(show, CHEUKDANE_SHOWN_PHASE) == (suspends ? 6u : 3u), "cold, hot and mixed suspend");
             int flagged = (cheukdane_word(show, CHEUKDANE_SHOWN_FLAGS) & CHEUKDANE_FLAG_BAND) != 0;
             holds(flagged == (band != NORMAL), "a band that has changed is flagged");
             holds(sees(&head, OF_BAND[second], OF_BAND[first], show) == 0, "the other way round too");
-            holds(cheukdane_word(head.image, CHEUKDANE_BAND) == band, "it is the same band");
+            holds(in_bands(&head, (uint32_t)second, (uint32_t)first), "each has its own band");
+            holds(ts_stat(&head) == band, "the band of both is the same");
             holds(cheukdane_word(show, CHEUKDANE_SHOWN_PULSE) == 0, "and gives no pulse");
         }
     }
@@ -77,13 +84,19 @@ static void cool_beside_warm(void) {
     }
     struct head head;
     start_after_the_example(&head);
-    cheukdane_put_word(head.image, CHEUKDANE_BAND, MIXED);
-    holds(cheukdane_report(head.image, sizeof head.image, report, sizeof report).number == 0, "an image may hold the mixed band");
+    cheukdane_put_word(head.image, CHEUKDANE_BANDS, COOL);
+    cheukdane_put_word(head.image, CHEUKDANE_BANDS + 1, WARM);
+    uint32_t reported = cheukdane_report(head.image, sizeof head.image, report, sizeof report).number;
+    holds(reported == 0, "an image may hold both in a phase that charges");
     holds(cheukdane_word(report, CHEUKDANE_REPORT_CURRENT) == 1500 && cheukdane_word(report, CHEUKDANE_REPORT_VOLTAGE) == 8400, "which has no share and no cut");
-    for (uint32_t band = 5; band <= 8; band++) {
-        cheukdane_put_word(head.image, CHEUKDANE_BAND, band);
-        uint32_t number = cheukdane_report(head.image, sizeof head.image, report, sizeof report).number;
-        holds(number == (band == MIXED ? 0u : 5u), "and 5, 6 and 8 are no bands");
+    for (uint32_t band = 0; band <= 8; band++) {
+        for (size_t which = 0; which < 2; which++) {
+            uint8_t image[CHEUKDANE_IMAGE];
+            memcpy(image, head.image, sizeof image);
+            cheukdane_put_word(image, CHEUKDANE_BANDS + which, band);
+            uint32_t number = cheukdane_report(image, sizeof image, report, sizeof report).number;
+            holds(number == (band < BANDS ? 0u : 5u), "and no thermistor is in a band above 4");
+        }
     }
     shown(before, "cool beside warm suspends, and is a band of its own");
 }
@@ -100,7 +113,7 @@ static void one_after_two(void) {
     holds(cheukdane_word(head.image, CHEUKDANE_SAMPLE + SECOND) == MOST_TS, "and right after it the second");
     holds(does(&head, &one, show) == 0, "an observation of one thermistor");
     holds(cheukdane_word(head.image, CHEUKDANE_SAMPLE + SECOND) == 55000, "stands for two equal ones");
-    holds(cheukdane_word(head.image, CHEUKDANE_BAND) == NORMAL, "so that the band is its own");
+    holds(in_bands(&head, NORMAL, NORMAL), "so that the band is its own");
     shown(before, "an observation of one thermistor after one of two");
 }
 

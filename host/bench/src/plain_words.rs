@@ -3,7 +3,7 @@
 
 use library::image::Powered;
 use library::layout::{
-    BAND, CYCLE, FLAGS, FORMAT, IMAGE_WORDS, LATCHES, PHASE, PROFILE, REGISTERS, SAMPLE, SETTINGS,
+    BANDS, CYCLE, FLAGS, FORMAT, IMAGE_WORDS, LATCHES, PHASE, PROFILE, REGISTERS, SAMPLE, SETTINGS,
     WATCHDOG, WORD,
 };
 use reference::event::{Sample, TwoSample};
@@ -13,6 +13,7 @@ use reference::settings::Settings;
 use reference::state::{Comparators, Cycle, PerStage, State};
 use reference::stored::{Stored, LENGTH};
 use reference::volts::CellMv;
+use reference::TsBand;
 
 /// The word of CELL_PIN, after the stored fields.
 const CELL_PIN: usize = REGISTERS + LENGTH / WORD;
@@ -46,13 +47,14 @@ fn put<const N: usize>(words: &mut Words, start: usize, values: [u32; N]) {
 
 /// The words of a model.
 pub fn of(powered: &Powered) -> Words {
-    let Powered { cell, stamp, band, state } = powered;
+    let Powered { cell, stamp, state } = powered;
     let State { pins, limits, comparators, cycle, sample, .. } = state;
     let mut words = [0; IMAGE_WORDS];
     words[0] = FORMAT;
     put(&mut words, PROFILE, [*cell, pins.vchg, pins.ichg, state.ohms, *stamp]);
     put(&mut words, PROFILE + 5, [state.ceiling.0]);
-    put(&mut words, PROFILE + 6, [limits.trickle, limits.precharge, limits.fast, state.period]);
+    put(&mut words, PROFILE + 6, [limits.trickle, limits.precharge, limits.fast]);
+    put(&mut words, PROFILE + 9, [state.period, state.edition]);
     put(&mut words, SETTINGS, state.settings.0);
     for (word, bytes) in words[REGISTERS..].iter_mut().zip(state.stored.0.chunks_exact(WORD)) {
         *word = u32::from_le_bytes(bytes.try_into().expect("four bytes"));
@@ -66,7 +68,7 @@ pub fn of(powered: &Powered) -> Words {
     let Sample { stamp, vin, vbat, ibat, ts, bits } = *sample;
     put(&mut words, SAMPLE, [stamp, vin, vbat, fold(ibat), ts, state.second, bits]);
     words[PHASE] = state.phase;
-    words[BAND] = *band;
+    put(&mut words, BANDS, state.bands.map(TsBand::number));
     words[FLAGS] = state.flags;
     words
 }
@@ -74,7 +76,7 @@ pub fn of(powered: &Powered) -> Words {
 /// The model that the words would be of. A word beyond its field's type is cut
 /// to it; then these aren't the model's words.
 pub fn powered(words: &Words) -> Powered {
-    let [cell, vchg, ichg, ohms, stamp, ceiling, trickle, precharge, fast, period] =
+    let [cell, vchg, ichg, ohms, stamp, ceiling, trickle, precharge, fast, period, edition] =
         part(words, PROFILE);
     let TwoSample { sample, second } = sample(part(words, SAMPLE));
     let state = State {
@@ -83,9 +85,11 @@ pub fn powered(words: &Words) -> Powered {
         ceiling: CellMv(ceiling),
         limits: PerStage { trickle, precharge, fast },
         period,
+        edition,
         settings: settings(part(words, SETTINGS)),
         stored: stored(&words[REGISTERS..CELL_PIN]),
         comparators: comparators(part(words, LATCHES)),
+        bands: part(words, BANDS).map(band),
         cycle: cycle(part(words, CYCLE)),
         watchdog: words[WATCHDOG],
         sample,
@@ -93,7 +97,7 @@ pub fn powered(words: &Words) -> Powered {
         phase: words[PHASE] % 8,
         flags: words[FLAGS] % (1 << 12),
     };
-    Powered { cell, stamp, band: band(words[BAND]), state }
+    Powered { cell, stamp, state }
 }
 
 fn bit(word: u32) -> bool {
@@ -127,11 +131,7 @@ fn sample([stamp, vin, vbat, ibat, ts, second, bits]: [u32; 7]) -> TwoSample {
     TwoSample { sample: Sample { stamp, vin, vbat, ibat: unfold(ibat), ts, bits }, second }
 }
 
-/// 0 to 4 and 7 are bands.
-fn band(word: u32) -> u32 {
-    if word == 7 {
-        7
-    } else {
-        word % 5
-    }
+/// 0 to 4 are bands.
+fn band(word: u32) -> TsBand {
+    TsBand::ALL[word as usize % TsBand::ALL.len()]
 }

@@ -5,7 +5,7 @@ use crate::words::Words;
 use reference::event::Sample;
 use reference::number::fold;
 use reference::state::{Comparators, PerStage, State};
-use reference::{Event, Model};
+use reference::{EditionProfile, Event, Model, TsBand};
 
 /// A model as an image holds it.
 #[derive(Clone, Copy, Debug, PartialEq, Eq)]
@@ -23,16 +23,14 @@ pub struct Powered {
     pub cell: u32,
     /// The power-on's stamp.
     pub stamp: u32,
-    /// The band's number.
-    pub band: u32,
     /// All else.
     pub state: State,
 }
 
 impl Powered {
-    /// A powered model whose band is its sample's.
+    /// A powered model by a power-on of this cell code and stamp.
     pub fn new(cell: u32, stamp: u32, state: State) -> Powered {
-        Powered { cell, stamp, band: band_number(&state), state }
+        Powered { cell, stamp, state }
     }
 }
 
@@ -47,22 +45,15 @@ impl Held {
 
     /// What is held after `event` on this made `model`.
     pub fn after(&self, event: &Event, model: &Model) -> Held {
-        match (model, event.profile(), self) {
+        match (model, event.powered(), self) {
             (Model::Off, _, _) => Held::Off,
-            (Model::On(state), Some(profile), _) => {
+            (Model::On(state), Some(EditionProfile { profile, .. }), _) => {
                 Held::On(Powered::new(profile.cell, profile.stamp, *state))
             }
-            (Model::On(state), _, Held::On(old)) => {
-                Held::On(Powered::new(old.cell, old.stamp, *state))
-            }
+            (Model::On(state), _, Held::On(old)) => Held::On(Powered { state: *state, ..*old }),
             (Model::On(_), _, Held::Off) => panic!("{event:?} powered a model"),
         }
     }
-}
-
-/// The number of the band that a state's sample is in.
-pub fn band_number(state: &State) -> u32 {
-    reference::band::of_state(state).number()
 }
 
 /// The image of a model.
@@ -74,11 +65,11 @@ pub fn of(held: &Held) -> Vec<u8> {
 }
 
 fn words(powered: &Powered) -> Vec<u32> {
-    let Powered { cell, stamp, band, state } = powered;
+    let Powered { cell, stamp, state } = powered;
     let mut words = vec![FORMAT, *cell, state.pins.vchg, state.pins.ichg, state.ohms, *stamp];
     words.push(state.ceiling.0);
     words.extend(stages(&state.limits));
-    words.push(state.period);
+    words.extend([state.period, state.edition]);
     words.extend(state.settings.0);
     words.extend(words_of(&state.stored.0).into_iter().flatten());
     words.push(state.pins.cell);
@@ -88,7 +79,8 @@ fn words(powered: &Powered) -> Vec<u32> {
     words.extend([u32::from(state.cycle.done), state.watchdog]);
     let Sample { stamp, vin, vbat, ibat, ts, bits } = state.sample;
     words.extend([stamp, vin, vbat, fold(ibat), ts, state.second, bits]);
-    words.extend([state.phase, *band, state.flags]);
+    let [first, second] = state.bands.map(TsBand::number);
+    words.extend([state.phase, first, second, state.flags]);
     words
 }
 

@@ -1,11 +1,24 @@
 //! What an event leaves of an image and shows, by each of the calls that take
-//! it: given by its words, or played and replayed by its record.
+//! it: given by its words, or played and replayed by its record; and the words
+//! of what is left.
 
 use crate::both;
 use crate::image::{self, Held, Powered};
-use crate::layout::{bytes_of, IMAGE, RECORD, SHOWN};
+use crate::layout::{bytes_of, words_of, IMAGE, RECORD, SHOWN, WORD};
 use reference::generate::{any_state, spoiled_state, Rng};
 use reference::number;
+
+/// The word at an index of bytes.
+pub fn word(bytes: &[u8], index: usize) -> u32 {
+    words_of(bytes).expect("whole words")[index]
+}
+
+/// An image with another word at an index.
+pub fn with_word(image: &[u8], index: usize, word: u32) -> Vec<u8> {
+    let mut bytes = image.to_vec();
+    bytes[WORD * index..][..WORD].copy_from_slice(&word.to_le_bytes());
+    bytes
+}
 
 /// What an event leaves: its answer, the image, and what it shows.
 pub type Left = (u32, Vec<u8>, [u8; SHOWN]);

@@ -9,6 +9,7 @@ use reference::settings::Settings;
 use reference::state::{Comparators, Cycle, PerStage, State};
 use reference::stored::{Stored, LENGTH};
 use reference::volts::CellMv;
+use reference::TsBand;
 
 /// An image's words, read one after another.
 pub(crate) struct Words<'words> {
@@ -47,7 +48,7 @@ impl<'words> Words<'words> {
         let stamp = self.number();
         let ceiling = CellMv(self.number());
         let limits = self.stages();
-        let period = self.number();
+        let (period, edition) = (self.number(), self.number());
         let settings = self.settings()?;
         let stored = self.stored();
         let pins = Pins { cell: self.number(), vchg, ichg };
@@ -56,7 +57,7 @@ impl<'words> Words<'words> {
         let watchdog = self.number();
         let TwoSample { sample, second } = self.sample();
         let phase = self.below(8)?;
-        let band = self.band()?;
+        let bands = [self.band()?, self.band()?];
         let flags = self.below(1 << 12)?;
         let state = State {
             pins,
@@ -64,9 +65,11 @@ impl<'words> Words<'words> {
             ceiling,
             limits,
             period,
+            edition,
             settings,
             stored,
             comparators,
+            bands,
             cycle,
             watchdog,
             sample,
@@ -74,7 +77,7 @@ impl<'words> Words<'words> {
             phase,
             flags,
         };
-        Some(Powered { cell, stamp, band, state })
+        Some(Powered { cell, stamp, state })
     }
 
     /// Settings 9 to 13 are switches.
@@ -112,8 +115,8 @@ impl<'words> Words<'words> {
         TwoSample { sample: Sample { stamp, vin, vbat, ibat, ts, bits }, second }
     }
 
-    /// 5 and 6 are no bands.
-    fn band(&mut self) -> Option<u32> {
-        Some(self.number()).filter(|word| matches!(word, 0..=4 | 7))
+    /// A thermistor's, 0 to 4.
+    fn band(&mut self) -> Option<TsBand> {
+        TsBand::numbered(self.number())
     }
 }

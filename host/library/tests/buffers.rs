@@ -6,7 +6,9 @@ use library::given;
 use library::image::{self, Held, Powered};
 use library::layout::{IMAGE, RECORD, REPORT, SHOWN};
 use library::tally::Tally;
-use reference::generate::{any_event, any_state, events_of, times, unspelled_run, Rng};
+use reference::generate::{
+    any_edition, any_event, any_state, events_of, times, unspelled_run, Rng,
+};
 use reference::record::encode;
 use reference::{Event, Run, Sample, TwoSample};
 
@@ -74,11 +76,12 @@ fn long_buffers() {
 #[test]
 fn a_short_buffer_comes_after_the_image_and_before_all_else() {
     let mut tally = Tally::default();
-    let logs: [&[u8]; 9] = [
+    let logs: [&[u8]; 10] = [
         &[],
         &[8, 5, 0],
         &[9],
         &[10],
+        &[11],
         &[18],
         &[2],
         &[2, 0x80, 0],
@@ -90,7 +93,7 @@ fn a_short_buffer_comes_after_the_image_and_before_all_else() {
             tally.count(both::play(&mut [0; IMAGE], log, 0, &mut buffer(length)).number);
             assert_eq!(both::play(&mut [2; IMAGE], log, 0, &mut buffer(length)).number, 5);
         }
-        for kind in [0, 1, 4, 8, 9, 10, 14, 18, 256] {
+        for kind in [0, 1, 4, 8, 9, 10, 11, 14, 18, 256] {
             tally.count(both::event(&mut [0; IMAGE], kind, &[], &mut buffer(length)).number);
             assert_eq!(both::event(&mut [2; IMAGE], kind, &[], &mut buffer(length)).number, 5);
         }
@@ -155,6 +158,9 @@ fn records_of_every_width() {
             write_at_every_length(&Event::Observe(sample), &mut tally);
             let two = TwoSample { sample, second: value };
             write_at_every_length(&Event::ObserveTwo(two), &mut tally);
+            let mut edition = any_edition(&mut Rng::new(shift as u64));
+            edition.edition = value;
+            write_at_every_length(&Event::PowerOnEdition(edition), &mut tally);
         }
     }
     tally.met_exactly([0, 12]);
@@ -162,10 +168,11 @@ fn records_of_every_width() {
 
 #[test]
 fn the_longest_records() {
-    for kind in [1, 9] {
-        let spelled = [vec![kind], [0xFF, 0xFF, 0xFF, 0xFF, 0x0F].repeat(10)].concat();
+    for (kind, count) in [(1, 10), (9, 10), (11, 11)] {
+        let spelled = [vec![kind], [0xFF, 0xFF, 0xFF, 0xFF, 0x0F].repeat(count)].concat();
         let longest = events_of(&spelled).remove(0);
-        assert_eq!(encode(&longest).len(), RECORD);
+        assert_eq!(encode(&longest).len(), 1 + 5 * count);
+        assert_eq!(encode(&longest).len() == RECORD, kind == 11);
         write_at_every_length(&longest, &mut Tally::default());
     }
 }

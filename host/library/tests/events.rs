@@ -10,8 +10,20 @@ use reference::record::encode;
 use reference::Event;
 
 /// How many words each kind has.
-const COUNTS: [(u32, usize); 11] =
-    [(1, 10), (2, 2), (3, 2), (4, 0), (5, 6), (6, 0), (7, 0), (8, 10), (9, 10), (10, 7), (14, 1)];
+const COUNTS: [(u32, usize); 12] = [
+    (1, 10),
+    (2, 2),
+    (3, 2),
+    (4, 0),
+    (5, 6),
+    (6, 0),
+    (7, 0),
+    (8, 10),
+    (9, 10),
+    (10, 7),
+    (11, 11),
+    (14, 1),
+];
 
 fn give(image: &mut [u8], event: &Event, shown: &mut [u8]) -> u32 {
     let words = given::words(event);
@@ -76,13 +88,13 @@ fn words_of_every_count() {
 #[test]
 fn unknown_kinds() {
     let mut rng = Rng::new(18);
-    let words = bytes_of(&[1; 10]);
+    let words = bytes_of(&[1; 11]);
     let large = (8..32).flat_map(|shift| (0..15).map(move |low| (1u32 << shift) + low));
-    let small = [0, u32::MAX].into_iter().chain(11..14);
+    let small = [0, 12, 13, u32::MAX].into_iter();
     for kind in small.chain(15..=300).chain(large) {
         let mut bad = [1; 4].repeat(IMAGE / 4);
         bad[..4].copy_from_slice(&1u32.to_le_bytes());
-        for length in [0, 3, 8, 24, 28, 40] {
+        for length in [0, 3, 8, 24, 28, 40, 44] {
             for mut image in [vec![0; IMAGE], any_powered(&mut rng)] {
                 let answer = both::event(&mut image, kind, &words[..length], &mut [0xEE; SHOWN]);
                 assert_eq!(answer.number, 4);
@@ -104,7 +116,7 @@ fn unknown_kinds_on_a_model_that_does_not_pass() {
         let bytes = image::of(&Held::On(Powered::new(0, 0, state)));
         let give = |kind| both::event(&mut bytes.clone(), kind, &[], &mut [0; SHOWN]).number;
         assert_eq!([0, 13, 15, 18].map(give), [4; 4]);
-        assert_eq!([4, 1, 9, 8, 10, 14].map(give), [5; 6]);
+        assert_eq!([4, 1, 9, 8, 10, 11, 14].map(give), [5; 7]);
     }
 }
 

@@ -30,7 +30,7 @@ fn constants_are_the_headers() {
         ("WATCHDOG", layout::WATCHDOG),
         ("SAMPLE", layout::SAMPLE),
         ("PHASE", layout::PHASE),
-        ("BAND", layout::BAND),
+        ("BANDS", layout::BANDS),
         ("FLAGS", layout::FLAGS),
         ("SHOWN", layout::SHOWN),
         ("REPORT", layout::REPORT),

@@ -3,14 +3,12 @@
 
 use library::both;
 use library::image::{self, Held, Powered};
-use library::layout::{BAND, FORMAT, IMAGE, IMAGE_WORDS, REPORT, SHOWN, WORD};
+use library::layout::{BANDS, FORMAT, IMAGE, IMAGE_WORDS, PROFILE, REPORT, SHOWN, WORD};
+use library::left::{with_word, word};
 use library::tally::Tally;
 use reference::generate::{any_event, any_state, plausible_events, spoiled_state, times, Rng};
 use reference::record::encode;
 use reference::{Event, Model};
-
-/// The words of an image that are bands.
-const BANDS: [u32; 6] = [0, 1, 2, 3, 4, 7];
 
 /// Lends the bytes to every call that takes an image; gives the answers of
 /// play, event, report and a register's read.
@@ -49,16 +47,6 @@ fn run(seed: u64, records: usize) -> Powered {
         Held::On(powered) => powered,
         Held::Off => run(!seed, records + 1),
     }
-}
-
-fn with_word(bytes: &[u8], index: usize, word: u32) -> Vec<u8> {
-    let mut bytes = bytes.to_vec();
-    bytes[WORD * index..][..WORD].copy_from_slice(&word.to_le_bytes());
-    bytes
-}
-
-fn word(bytes: &[u8], index: usize) -> u32 {
-    u32::from_le_bytes(bytes[WORD * index..][..WORD].try_into().expect("four bytes"))
 }
 
 #[test]
@@ -195,26 +183,44 @@ fn a_cell_code_above_seven() {
     assert_eq!(lend(&bytes, &Event::Service), [5, 5, 0, 0]);
 }
 
-/// With another word for the band the bytes are no image.
+/// With another word for a thermistor's band than 0 to 4 the bytes are no image.
 #[test]
 fn every_word_of_a_band() {
     let bytes = image::of(&Held::On(run(5, 40)));
     let far = (0..32).flat_map(|bit| [0, 4, 7].map(|low| (1u32 << bit).wrapping_add(low)));
     for word in (0..=300).chain(far).chain([u32::MAX]) {
-        let wanted = if BANDS.contains(&word) { [0; 4] } else { [5; 4] };
-        assert_eq!(lend(&with_word(&bytes, BAND, word), &Event::TakeFlags), wanted, "{word}");
+        let wanted = if word <= 4 { [0; 4] } else { [5; 4] };
+        for index in [BANDS, BANDS + 1] {
+            assert_eq!(lend(&with_word(&bytes, index, word), &Event::TakeFlags), wanted, "{word}");
+        }
     }
 }
 
-/// The band is held: flag 7 is between it and the band after the event, and
-/// the report is by it.
+/// Any word is an image's edition; of another than 1 and 2 an event is 5, and
+/// reads answer.
 #[test]
-fn a_band_that_is_not_the_samples() {
+fn every_word_of_an_edition() {
+    let mut rng = Rng::new(27);
+    let bytes = image::of(&Held::On(run(6, 40)));
+    let far = (2..32).flat_map(|bit| [0, 1, 2].map(|low| (1u32 << bit) + low));
+    for word in (0..=300).chain(far).chain([u32::MAX]) {
+        let number = if matches!(word, 1 | 2) { 0 } else { 5 };
+        let other = with_word(&bytes, PROFILE + 10, word);
+        assert_eq!(lend(&other, &Event::TakeFlags), [number, number, 0, 0], "{word}");
+        lend(&other, &any_event(&mut rng));
+    }
+}
+
+/// The bands are held: flag 7 is between the band of both before the event and
+/// after it, and the report is by them.
+#[test]
+fn bands_that_are_not_the_samples() {
     let mut rng = Rng::new(11);
-    for round in 0..times(10_000) {
+    for round in 0..times(6_000) {
         let bytes = image::of(&Held::On(run(round % 1_000, 25)));
-        for band in BANDS {
-            let other = with_word(&bytes, BAND, band);
+        for band in 0..5 {
+            let other = with_word(&bytes, BANDS, band);
+            let other = with_word(&other, BANDS + 1, rng.within(0, 4));
             lend(&other, &any_event(&mut rng));
             lend(&other, &Event::TakeFlags);
             lend(&other, &Event::ReadFlags { address: 0x20 });

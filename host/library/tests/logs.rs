@@ -144,7 +144,7 @@ fn single_records_on_models_that_do_not_pass() {
 fn unreadable_records_on_models_that_do_not_pass() {
     let mut rng = Rng::new(6);
     let mut tally = Tally::default();
-    let unreadable: [&[u8]; 10] = [
+    let unreadable: [&[u8]; 11] = [
         &[2],
         &[2, 0x80, 0x00],
         &[2, 0x80, 0x80, 0x80, 0x80, 0x10],
@@ -153,6 +153,7 @@ fn unreadable_records_on_models_that_do_not_pass() {
         &[8, 0x10, 0x00, 1],
         &[8, 0x10, 0x21, 1],
         &[10, 1, 1, 1, 1, 1, 1],
+        &[11, 1, 1, 1, 1, 1, 1, 1, 1, 1, 1],
         &[18],
         &[0],
     ];

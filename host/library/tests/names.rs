@@ -5,7 +5,7 @@ use reference::generate::events_of;
 use reference::map::FIELDS;
 use reference::pins::code_of;
 use reference::state::phase;
-use reference::{edges, event, Band, Event, Refusal, Run, Sample, Setting};
+use reference::{edges, event, Band, Event, Refusal, Run, Sample, Setting, TsBand};
 
 const HEADER: &str = include_str!("../../../include/cheukdane.h");
 
@@ -90,7 +90,7 @@ fn refusals() {
 
 #[test]
 fn kinds() {
-    let power_on = |kind| events_of(&[[kind].as_slice(), &[0; 10]].concat()).remove(0);
+    let power_on = |kind| events_of(&[[kind].as_slice(), &[0; 11]].concat()).remove(0);
     let wanted = [
         ("POWER_ON", power_on(1)),
         ("SET", Event::Set { number: 1, value: 2_400 }),
@@ -102,6 +102,7 @@ fn kinds() {
         ("WRITE_RUN", Event::WriteRun(Run::new(0x15, &[0]))),
         ("POWER_ON_RESISTORS", power_on(9)),
         ("OBSERVE_TWO", Event::ObserveTwo(Sample::at_power_on(0).of_two())),
+        ("POWER_ON_EDITION", power_on(11)),
         ("READ_FLAGS", Event::ReadFlags { address: 0x20 }),
     ];
     are("KIND_", &wanted.map(|(name, event)| (name, event.kind().into())));
@@ -151,6 +152,9 @@ fn phases_bands_and_stat() {
         ("MIXED", Band::Mixed),
     ];
     are("BAND_", &bands.map(|(name, band)| (name, band.number())));
+    for (band, (_, both)) in TsBand::ALL.into_iter().zip(bands) {
+        assert_eq!((band.of_both(), band.number()), (both, both.number()), "one thermistor's");
+    }
     are("STAT_", &[("LOW", 0), ("BLINKING", 1), ("HIGH", 2)]);
 }
 

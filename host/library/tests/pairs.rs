@@ -82,7 +82,7 @@ fn a_log_and_one_with_a_byte_changed() {
 
 /// A sixth record that can't be read, its number, and the place of what
 /// decided it, from the record's start; the last can be read, to its end.
-const SIXTH: [(&[u8], u32, u64); 12] = [
+const SIXTH: [(&[u8], u32, u64); 13] = [
     (&[2], 1, 1),
     (&[2, 1, 0x80], 1, 3),
     (&[9], 1, 1),
@@ -93,6 +93,7 @@ const SIXTH: [(&[u8], u32, u64); 12] = [
     (&[8, 5, 0, 1], 5, 2),
     (&[8, 0x85, 1, 0x80, 1], 5, 3),
     (&[10, 1, 2, 3, 4, 5, 6], 1, 7),
+    (&[11, 1, 2, 3, 4, 5, 6, 7, 8, 9, 10], 1, 11),
     (&[18], 4, 0),
     (&[2, 1, 1], 0, 3),
 ];

@@ -3,7 +3,10 @@
 
 use library::both;
 use library::image::{self, Held, Powered};
-use library::layout::{BAND, FLAGS, FORMAT, IMAGE, PHASE, REGISTERS, SETTINGS, SHOWN, WORD};
+use library::layout::{
+    BANDS, CYCLE, FLAGS, FORMAT, IMAGE, PHASE, PROFILE, REGISTERS, SETTINGS, SHOWN, WATCHDOG, WORD,
+};
+use library::left::with_word;
 use library::tally::Tally;
 use reference::generate::{any_state, plausible_events, spoiled_state, times, Rng};
 use reference::Model;
@@ -60,12 +63,6 @@ fn with_stored(image: &[u8], address: usize, byte: u8) -> Vec<u8> {
     bytes
 }
 
-fn with_word(image: &[u8], index: usize, word: u32) -> Vec<u8> {
-    let mut bytes = image.to_vec();
-    bytes[WORD * index..][..WORD].copy_from_slice(&word.to_le_bytes());
-    bytes
-}
-
 fn give(image: &mut [u8], kind: u32) -> u32 {
     both::event(image, kind, &[], &mut [0xEE; SHOWN]).number
 }
@@ -110,13 +107,13 @@ fn every_address_before_a_power_on() {
     read_all(&[0; IMAGE]).met_exactly([6]);
 }
 
-/// An image of the format before was a word shorter; its length is another, and
-/// so is its number.
+/// An image of the format before was two words shorter; its length is another,
+/// and so is its number.
 #[test]
 fn every_address_of_what_is_no_image() {
     let image = powered();
     let longer = [&image[..], &[0; WORD]].concat();
-    for bytes in [&image[..IMAGE - WORD], &[0; IMAGE - WORD], &longer[..], &[]] {
+    for bytes in [&image[..IMAGE - 2 * WORD], &[0; IMAGE - 2 * WORD], &longer[..], &[]] {
         read_all(bytes).met_exactly([5]);
     }
     for format in [FORMAT - 1, FORMAT + 1] {
@@ -145,8 +142,9 @@ fn every_address_of_any_model() {
         let state = any_state(&mut rng);
         let image = image::of(&Held::On(Powered::new(rng.within(0, 7), rng.any(), state)));
         read_all(&image).met_exactly([0]);
-        for band in [0, 1, 2, 3, 4, 7] {
-            assert_eq!(byte(&with_word(&image, BAND, band), 0x1E), band);
+        for (first, second, wanted) in [(0, 0, 0), (1, 2, 1), (0, 2, 2), (3, 3, 3), (4, 3, 7)] {
+            let first = with_word(&image, BANDS, first);
+            assert_eq!(byte(&with_word(&first, BANDS + 1, second), 0x1E), wanted);
         }
     }
 }
@@ -190,7 +188,8 @@ fn times_outside_their_ranges() {
     let image = powered();
     for _ in 0..times(20_000) {
         let mut damaged = image.clone();
-        for index in [7, 8, 9, 10, 41, 42, 43, 45] {
+        let limits = PROFILE + 6..PROFILE + 10;
+        for index in limits.chain(CYCLE..CYCLE + 3).chain([WATCHDOG]) {
             let near = rng.pick(&[0, 1, 2_147_483, 2_147_484, 4_294_967, 4_294_968]);
             let any = rng.any_length();
             damaged = with_word(&damaged, index, rng.pick(&[near, any, u32::MAX, u32::MAX - 1]));

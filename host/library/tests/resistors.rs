@@ -109,11 +109,13 @@ fn it_ends_6() {
     assert_eq!((taken.0, service(&taken.1)), (0, 0));
 }
 
-/// The image has the codes where kind 1's numbers stand, and no ohms.
+/// The image has the codes where kind 1's numbers stand, and no ohms; then the
+/// first edition.
 #[test]
 fn the_image_has_the_codes() {
     let image = given(&[0; IMAGE], BY_RESISTORS, &NUMBERS).1;
-    assert_eq!(image[PROFILE * WORD..][..10 * WORD], bytes_of(&WITH_CODES));
+    let wanted = [&WITH_CODES[..], &[1]].concat();
+    assert_eq!(image[PROFILE * WORD..][..11 * WORD], bytes_of(&wanted));
 }
 
 /// "An image of another format, an older one too, is 5", also to a power-on.

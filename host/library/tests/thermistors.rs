@@ -5,8 +5,12 @@
 
 use library::both;
 use library::image::{self, Held, Powered};
-use library::layout::{bytes_of, words_of, BAND, FLAGS, IMAGE, PHASE, REPORT, SAMPLE, SHOWN, WORD};
-use library::left::{any_image, by_each, each_apart, each_misspelled, given, replayed, written};
+use library::layout::{
+    bytes_of, words_of, BANDS, FLAGS, IMAGE, PHASE, REPORT, SAMPLE, SHOWN, WORD,
+};
+use library::left::{
+    any_image, by_each, each_apart, each_misspelled, given, replayed, with_word, word, written,
+};
 use library::tally::Tally;
 use reference::generate::{
     any_log, any_state, any_two_sample, damaged_log, plausible_events, spelled, times, Rng,
@@ -51,16 +55,6 @@ fn of_two(ts: u32, second: u32) -> [u32; 7] {
     let mut numbers = with(SECOND, second);
     numbers[SECOND - 1] = ts;
     numbers
-}
-
-fn word(bytes: &[u8], index: usize) -> u32 {
-    words_of(bytes).expect("whole words")[index]
-}
-
-fn with_word(image: &[u8], index: usize, word: u32) -> Vec<u8> {
-    let mut bytes = image.to_vec();
-    bytes[WORD * index..][..WORD].copy_from_slice(&word.to_le_bytes());
-    bytes
 }
 
 /// A sample for an image, mostly at a time that passes.
@@ -138,8 +132,8 @@ const OF_BANDS: [u32; 5] = [55_000, 75_320, 34_375, 68_250, 44_750];
 const TABLE: [[u32; 5]; 5] =
     [[0, 1, 2, 3, 4], [1, 1, 1, 1, 1], [2, 1, 2, 2, 2], [3, 1, 2, 3, 7], [4, 1, 2, 7, 4]];
 
-/// Each pair: its band in the image and in TS_STAT, its phase, and flag 7 where
-/// the band has changed.
+/// Each pair: both bands in the image, that of both in TS_STAT, its phase, and
+/// flag 7 where the band has changed.
 #[test]
 fn every_pair_of_bands() {
     let start = given(&powered(), TAKE_FLAGS, &[]).1;
@@ -147,8 +141,9 @@ fn every_pair_of_bands() {
         for (second, wanted) in row.into_iter().enumerate() {
             let numbers = of_two(OF_BANDS[first], OF_BANDS[second]);
             let (number, image, shown) = by_each(&start, OBSERVE_TWO, &numbers);
-            let held = [word(&image, BAND), both::register(&image, TS_STAT).byte];
-            assert_eq!((number, held), (0, [wanted; 2]), "{first} {second}");
+            let held = [word(&image, BANDS), word(&image, BANDS + 1)].map(|band| band as usize);
+            assert_eq!((number, held), (0, [first, second]));
+            assert_eq!(both::register(&image, TS_STAT).byte, wanted, "{first} {second}");
             let suspended = matches!(wanted, 1 | 2 | 7);
             assert_eq!(word(&shown, 0), if suspended { 6 } else { 3 });
             assert_eq!(word(&image, FLAGS) & 128 != 0, wanted != 0);
@@ -183,7 +178,10 @@ fn the_mixed_band_of_any_image() {
         let image = image::of(&Held::On(Powered::new(rng.within(0, 7), rng.any(), state)));
         for phase in 0..8 {
             let image = with_word(&image, PHASE, phase);
-            let [normal, mixed] = [0, 7].map(|band| with_word(&image, BAND, band));
+            let in_bands = |[first, second]: [u32; 2]| {
+                with_word(&with_word(&image, BANDS, first), BANDS + 1, second)
+            };
+            let [normal, mixed] = [[0, 0], [3, 4]].map(in_bands);
             let [one, other] = [&normal, &mixed].map(|image| {
                 let mut report = [0xEE; REPORT];
                 assert_eq!(both::report(image, &mut report).number, 0);
@@ -208,7 +206,8 @@ fn suspension_whatever_the_registers_say() {
         for (ts, second) in [(68_250, 44_750), (44_750, 68_250)] {
             let (_, image, shown) = given(&written, OBSERVE_TWO, &of_two(ts, second));
             let wanted = if byte & 3 == 3 { (7, 6) } else { (0, 3) };
-            assert_eq!((word(&image, BAND), word(&shown, 0)), wanted, "{byte:#04X}");
+            let ts_stat = both::register(&image, TS_STAT).byte;
+            assert_eq!((ts_stat, word(&shown, 0)), wanted, "{byte:#04X}");
         }
     }
 }

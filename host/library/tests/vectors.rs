@@ -2,7 +2,7 @@
 //! the model holds after each record, and where two logs part.
 
 use library::calls;
-use library::layout::{words_of, BAND, IMAGE, REPORT, SETTINGS, SHOWN};
+use library::layout::{words_of, IMAGE, REPORT, SETTINGS, SHOWN};
 use std::fs;
 use std::ops::RangeInclusive;
 use std::path::{Path, PathBuf};
@@ -10,8 +10,11 @@ use std::path::{Path, PathBuf};
 /// The registers whose bytes the stored lines of `state` have.
 const BYTES: RangeInclusive<u32> = 0x00..=0x26;
 
-/// The bands' names by their numbers; 5 and 6 are none.
+/// The bands' names by their numbers, which TS_STAT has; 5 and 6 are none.
 const BANDS: [&str; 8] = ["normal", "cold", "hot", "cool", "warm", "", "", "mixed"];
+
+/// The address of TS_STAT, bits 2:0.
+const TS_STAT: u32 = 0x1E;
 
 /// The longest input a program takes.
 const MOST_INPUT: usize = 65_536;
@@ -112,7 +115,7 @@ fn state_line(played: &Played) -> String {
     let registers: Vec<u32> =
         BYTES.map(|address| calls::register(played.image, address).byte).collect();
     let held = words(played.image);
-    let band = BANDS[held[BAND] as usize];
+    let band = BANDS[calls::register(played.image, TS_STAT).byte as usize & 7];
     let stat = ["low", "blinking", "high"][report(played.image)[5] as usize];
     let handed = played.shown.as_ref().map_or(0, |shown| shown[6]);
     let settings = spaced(&held[SETTINGS..SETTINGS + 14]);

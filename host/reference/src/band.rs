@@ -4,20 +4,62 @@ use crate::model::Model;
 use crate::state::State;
 use crate::stored::Stored;
 
-/// Where one thermistor's TS stands, or both of them.
+/// The band of one thermistor.
 #[derive(Clone, Copy, Debug, PartialEq, Eq)]
-pub enum Band {
+pub enum TsBand {
     /// Neither of the others.
     Normal,
     /// At or above TH1.
     Cold,
+    /// At or below TH5.
+    Hot,
     /// At or above TH2.
     Cool,
     /// At or below TH3.
     Warm,
-    /// At or below TH5.
+}
+
+impl TsBand {
+    /// All of them, in the order of their numbers.
+    pub const ALL: [TsBand; 5] =
+        [TsBand::Normal, TsBand::Cold, TsBand::Hot, TsBand::Cool, TsBand::Warm];
+
+    /// The band's number, from 0.
+    pub fn number(self) -> u32 {
+        self as u32
+    }
+
+    /// The band of a number, if it is one's.
+    pub fn numbered(number: u32) -> Option<TsBand> {
+        TsBand::ALL.into_iter().find(|band| band.number() == number)
+    }
+
+    /// The band of two thermistors that are both in this one.
+    pub fn of_both(self) -> Band {
+        match self {
+            TsBand::Normal => Band::Normal,
+            TsBand::Cold => Band::Cold,
+            TsBand::Hot => Band::Hot,
+            TsBand::Cool => Band::Cool,
+            TsBand::Warm => Band::Warm,
+        }
+    }
+}
+
+/// The band of both thermistors.
+#[derive(Clone, Copy, Debug, PartialEq, Eq)]
+pub enum Band {
+    /// Both are normal.
+    Normal,
+    /// One is cold, or both are.
+    Cold,
+    /// One is hot, or both are, and none is cold.
     Hot,
-    /// One cool and one warm: of two thermistors alone.
+    /// One is cool, or both are; else normal.
+    Cool,
+    /// One is warm, or both are; else normal.
+    Warm,
+    /// One cool and one warm.
     Mixed,
 }
 
@@ -48,40 +90,86 @@ impl Band {
     }
 }
 
-/// One thermistor's: "Band, first that holds: EN_TS 0 normal; TS >= TH1 cold;
-/// TS <= TH5 hot; with EN_JEITA: TS >= TH2 cool; TS <= TH3 warm; else normal."
-/// The order matters, as the thresholds can be set to overlap.
-fn of_one(stored: &Stored, ts: u32) -> Band {
+/// How far back past its threshold a held band is left.
+const BACK: i64 = 1_000;
+
+/// One thermistor's by the sheet's first edition: "Band, first that holds:
+/// EN_TS 0 normal; TS >= TH1 cold; TS <= TH5 hot; with EN_JEITA: TS >= TH2
+/// cool; TS <= TH3 warm; else normal." The order matters, as the thresholds can
+/// be set to overlap.
+fn afresh(stored: &Stored, ts: u32) -> TsBand {
     if !stored.en_ts() {
-        Band::Normal
+        TsBand::Normal
     } else if ts >= stored.th1() {
-        Band::Cold
+        TsBand::Cold
     } else if ts <= stored.th5() {
-        Band::Hot
+        TsBand::Hot
     } else if stored.en_jeita() && ts >= stored.th2() {
-        Band::Cool
+        TsBand::Cool
     } else if stored.en_jeita() && ts <= stored.th3() {
-        Band::Warm
+        TsBand::Warm
     } else {
-        Band::Normal
+        TsBand::Normal
     }
+}
+
+/// How far TS is back past the threshold that lets a band in, below 0 where it
+/// isn't: "Moved thresholds are read as they stand". Normal has none; cool and
+/// warm have none without EN_JEITA, and none has one without EN_TS.
+fn way_back(stored: &Stored, held: TsBand, ts: u32) -> Option<i64> {
+    let [ts, th1, th2, th3, th5] =
+        [ts, stored.th1(), stored.th2(), stored.th3(), stored.th5()].map(i64::from);
+    let back = match held {
+        TsBand::Normal => None,
+        TsBand::Cold => Some(th1 - ts),
+        TsBand::Hot => Some(ts - th5),
+        TsBand::Cool => stored.en_jeita().then_some(th2 - ts),
+        TsBand::Warm => stored.en_jeita().then_some(ts - th3),
+    };
+    back.filter(|_| stored.en_ts())
+}
+
+/// One thermistor's by the second edition: what is held stays "until TS is
+/// 1,000 units or more back past the threshold that let it in"; "Cold and hot
+/// are entered at once. A band that is left is judged afresh".
+fn held_on(stored: &Stored, held: TsBand, ts: u32) -> TsBand {
+    let fresh = afresh(stored, ts);
+    let at_once = matches!(fresh, TsBand::Cold | TsBand::Hot);
+    match way_back(stored, held, ts) {
+        Some(back) if back < BACK && !at_once => held,
+        _ => fresh,
+    }
+}
+
+/// One thermistor's by the edition of the pack's sheet.
+fn of_one(State { stored, edition, .. }: &State, held: TsBand, ts: u32) -> TsBand {
+    match edition {
+        1 => afresh(stored, ts),
+        _ => held_on(stored, held, ts),
+    }
+}
+
+/// Both, "for each thermistor by itself" and "judged by the same registers".
+pub(crate) fn settled(state: &State) -> [TsBand; 2] {
+    let [first, second] = state.bands;
+    [of_one(state, first, state.sample.ts), of_one(state, second, state.second)]
 }
 
 /// "If either is cold the band is cold, else if either is hot it is hot; cool
 /// beside warm counts as a new band, apart, [...]; otherwise the one that isn't
 /// normal decides."
-fn joined(first: Band, second: Band) -> Band {
+fn joined(first: TsBand, second: TsBand) -> Band {
     match (first, second) {
-        (Band::Cold, _) | (_, Band::Cold) => Band::Cold,
-        (Band::Hot, _) | (_, Band::Hot) => Band::Hot,
-        (Band::Cool, Band::Warm) | (Band::Warm, Band::Cool) => Band::Mixed,
-        (Band::Normal, other) | (other, _) => other,
+        (TsBand::Cold, _) | (_, TsBand::Cold) => Band::Cold,
+        (TsBand::Hot, _) | (_, TsBand::Hot) => Band::Hot,
+        (TsBand::Cool, TsBand::Warm) | (TsBand::Warm, TsBand::Cool) => Band::Mixed,
+        (TsBand::Normal, other) | (other, _) => other.of_both(),
     }
 }
 
-/// The band of both thermistors, "judged by the same registers".
+/// The band of both thermistors, as they are held.
 pub fn of_state(state: &State) -> Band {
-    let [first, second] = [state.sample.ts, state.second].map(|ts| of_one(&state.stored, ts));
+    let [first, second] = state.bands;
     joined(first, second)
 }
 

@@ -1,6 +1,6 @@
 //! What events may bring and what a model may hold.
 
-use crate::event::{Profile, Resistors, TwoSample};
+use crate::event::{EditionProfile, Profile, Resistors, TwoSample};
 use crate::model::Model;
 use crate::settings::{Setting, Settings};
 use crate::state::{PerStage, Stage, State, MOST_AHEAD_MS, UNITS_PER_SECOND};
@@ -15,8 +15,13 @@ const MOST_BITS: u32 = 63;
 const MOST_FLAGS: u32 = 4_095;
 const MOST_PHASE: u32 = 7;
 
-/// Whether a power-on's numbers are in their ranges.
-pub fn profile_in_range(profile: &Profile) -> bool {
+/// Whether a power-on's numbers are in their ranges: "another edition number is
+/// 5".
+pub fn edition_in_range(EditionProfile { profile, edition }: &EditionProfile) -> bool {
+    profile_in_range(profile) && is_edition(*edition)
+}
+
+fn profile_in_range(profile: &Profile) -> bool {
     let codes = [profile.cell, profile.vchg, profile.ichg];
     let seconds = [profile.trickle, profile.precharge, profile.fast, profile.watchdog];
     codes.into_iter().all(is_code)
@@ -51,6 +56,10 @@ fn is_seconds(seconds: u32) -> bool {
     seconds <= MOST_SECONDS
 }
 
+fn is_edition(edition: u32) -> bool {
+    matches!(edition, 1 | 2)
+}
+
 fn is_ceiling(ceiling: u32) -> bool {
     (4_350..=4_714).contains(&ceiling)
 }
@@ -82,6 +91,7 @@ fn held_profile_in_range(state: &State) -> bool {
         && state.ohms <= MOST_OHMS
         && is_ceiling(state.ceiling.0)
         && [trickle, precharge, fast, state.period].into_iter().all(is_seconds)
+        && is_edition(state.edition)
 }
 
 fn settings_in_range(settings: &Settings) -> bool {

@@ -38,8 +38,8 @@ pub mod state;
 pub mod stored;
 pub mod volts;
 
-pub use band::{band, Band};
-pub use event::{Event, Profile, Resistors, Run, Sample, TwoSample};
+pub use band::{band, Band, TsBand};
+pub use event::{EditionProfile, Event, Profile, Resistors, Run, Sample, TwoSample};
 pub use hold::may_hold;
 pub use model::{Model, Step};
 pub use part::{part, partlog, Parting};

@@ -1,8 +1,8 @@
 //! The model and one event on it.
 
 use crate::edges::{edges, WATCHDOG_EXPIRED};
-use crate::event::{Event, Profile, Resistors};
-use crate::hold::{may_hold, profile_in_range, resistors_in_range};
+use crate::event::{EditionProfile, Event, Resistors};
+use crate::hold::{edition_in_range, may_hold, resistors_in_range};
 use crate::map;
 use crate::refusal::Refusal;
 use crate::registers::flags_at;
@@ -72,8 +72,9 @@ impl Model {
             return Err(Refusal::OutOfRange);
         }
         match (event, self) {
-            (Event::PowerOn(profile), _) => powered_on(profile),
+            (Event::PowerOn(profile), _) => powered_on(&profile.of_first()),
             (Event::PowerOnResistors(resistors), _) => powered_by(resistors),
+            (Event::PowerOnEdition(edition), _) => powered_on(edition),
             (_, Model::Off) => Err(Refusal::NotPowered),
             (_, Model::On(before)) => stepped(before, event),
         }
@@ -82,11 +83,11 @@ impl Model {
 
 /// "Power-on sets flags to 32 and pulses": exactly 32, whatever was held. A
 /// power-on can be refused with 5 alone.
-fn powered_on(profile: &Profile) -> Result<Accepted, Refusal> {
-    if !profile_in_range(profile) {
+fn powered_on(edition: &EditionProfile) -> Result<Accepted, Refusal> {
+    if !edition_in_range(edition) {
         return Err(Refusal::OutOfRange);
     }
-    let mut state = State::at_power_on(profile);
+    let mut state = State::at_power_on(edition);
     settle(&mut state, Cause::Other);
     state.flags = WATCHDOG_EXPIRED;
     Ok(Accepted { state, pulse: true, handed: 0 })
@@ -97,7 +98,7 @@ fn powered_by(resistors: &Resistors) -> Result<Accepted, Refusal> {
     if !resistors_in_range(resistors) {
         return Err(Refusal::OutOfRange);
     }
-    powered_on(&resistors.profile())
+    powered_on(&resistors.profile().of_first())
 }
 
 fn stepped(before: &State, event: &Event) -> Result<Accepted, Refusal> {
@@ -114,7 +115,7 @@ fn stepped(before: &State, event: &Event) -> Result<Accepted, Refusal> {
 /// 4 and 14 settle as any other event does; only then are flags taken: by kind
 /// 4 all of them, by kind 14 the register's own, of which it hands back "the
 /// register's byte, not the flags' number".
-pub fn hand_back(event: &Event, state: &mut State) -> u32 {
+fn hand_back(event: &Event, state: &mut State) -> u32 {
     match event {
         Event::TakeFlags => std::mem::take(&mut state.flags),
         Event::ReadFlags { address } => {

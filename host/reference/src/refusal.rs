@@ -10,7 +10,7 @@ pub enum Refusal {
     NotShortest = 2,
     /// Five groups all have the high bit, or the value is above 4,294,967,295.
     TooLarge = 3,
-    /// The kind is not 1-10 or 14.
+    /// The kind is not 1-11 or 14.
     UnknownKind = 4,
     /// A number is outside its range, or a handed-in model's field is. Of the
     /// log reader: a run's length is not 1-32; of an event, that it has no

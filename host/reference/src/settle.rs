@@ -66,6 +66,7 @@ pub(crate) fn settle(state: &mut State, cause: Cause) {
         state.settings[Setting::EnChg] = 0;
     }
     compare(state, fault);
+    state.bands = band::settled(state);
     if !permitted(state, fault) {
         state.cycle = Cycle::default();
         state.phase = phase::IDLE;

@@ -1,7 +1,8 @@
 //! What a powered model holds, and what each event does to it before it
 //! settles.
 
-use crate::event::{Event, Profile, Sample, TwoSample};
+use crate::band::TsBand;
+use crate::event::{EditionProfile, Event, Sample, TwoSample};
 use crate::hold::sample_in_range;
 use crate::pins::{Overrides, Pins};
 use crate::refusal::Refusal;
@@ -142,12 +143,16 @@ pub struct State {
     pub limits: PerStage,
     /// The watchdog's period, seconds.
     pub period: u32,
+    /// The edition of the pack's sheet.
+    pub edition: u32,
     /// The settings.
     pub settings: Settings,
     /// The stored fields of the register map.
     pub stored: Stored,
     /// The comparators.
     pub comparators: Comparators,
+    /// The band of each thermistor.
+    pub bands: [TsBand; 2],
     /// The cycle.
     pub cycle: Cycle,
     /// The watchdog's count, ms, at most 1,000 x period.
@@ -164,7 +169,7 @@ pub struct State {
 
 impl State {
     /// The state of a power-on, before it settles.
-    pub(crate) fn at_power_on(profile: &Profile) -> State {
+    pub(crate) fn at_power_on(EditionProfile { profile, edition }: &EditionProfile) -> State {
         let pins = Pins { cell: profile.cell, vchg: profile.vchg, ichg: profile.ichg };
         let TwoSample { sample, second } = Sample::at_power_on(profile.stamp).of_two();
         State {
@@ -177,9 +182,11 @@ impl State {
                 fast: profile.fast,
             },
             period: profile.watchdog,
+            edition: *edition,
             settings: Settings::at_start(&pins),
             stored: Stored::at_power_on(),
             comparators: Comparators::at_power_on(),
+            bands: [TsBand::Normal; 2],
             cycle: Cycle::default(),
             watchdog: 0,
             sample,
@@ -272,7 +279,8 @@ impl State {
 
     /// "Register reset restores start values, from the held codes, and the
     /// resets above, clears overrides, cycle and watchdog count; it leaves
-    /// pin codes, flags, comparators and 0x19 bit 7."
+    /// pin codes, flags, comparators and 0x19 bit 7." It "leaves what is held"
+    /// of the bands, "as it leaves comparators".
     pub(crate) fn reset(&mut self) {
         self.settings = Settings::at_start(&self.pins);
         self.stored = self.stored.reset();
@@ -283,7 +291,8 @@ impl State {
     /// What an event other than a power-on does before settling.
     pub(crate) fn apply(&mut self, event: &Event) -> Result<(), Refusal> {
         match event {
-            Event::PowerOn(_) | Event::PowerOnResistors(_) | Event::TakeFlags => {}
+            Event::PowerOn(_) | Event::PowerOnResistors(_) | Event::PowerOnEdition(_) => {}
+            Event::TakeFlags => {}
             Event::Set { number, value } => self.set(*number, *value)?,
             Event::Write { address, byte } => registers::write(self, *address, *byte)?,
             Event::Observe(sample) => self.observe(&sample.of_two())?,

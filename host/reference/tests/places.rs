@@ -39,7 +39,7 @@ fn check(rng: &mut Rng, log: &[u8], start: usize, Refused { code, place }: Refus
             assert!(log[place] >= TOO_LARGE, "{start} of {log:02X?}");
             assert_eq!(groups(log, start, place), 4, "{start} of {log:02X?}");
         }
-        Refusal::UnknownKind => assert!(place == start && !matches!(log[start], 1..=10 | 14)),
+        Refusal::UnknownKind => assert!(place == start && !matches!(log[start], 1..=11 | 14)),
         Refusal::OutOfRange => return check_length(rng, log, start, place),
         _ => panic!("{code:?} isn't the reader's"),
     }
@@ -76,7 +76,7 @@ fn check_end(log: &[u8], start: usize, place: usize) {
         // A length of more groups than one is above 127, or ends with a zero group.
         (RUN, 1) => {}
         (RUN, _) => check_end_of_raw(log, start),
-        _ => check_end_of_number(log, start, place, &[0; 10]),
+        _ => check_end_of_number(log, start, place, &[0; 11]),
     }
 }
 
@@ -209,7 +209,9 @@ fn spot(log: &[u8]) -> Option<Spot> {
 #[test]
 fn damaged_logs_reach_every_spot() {
     let mut wanted = BTreeSet::from([(5, RUN, 1, 0), (1, RUN, 2, 0)]);
-    for (kind, count) in [(1, 10), (2, 2), (3, 2), (5, 6), (RUN, 2), (9, 10), (10, 7), (14, 1)] {
+    let powers = [(1, 10), (9, 10), (11, 11)];
+    let others = [(2, 2), (3, 2), (5, 6), (RUN, 2), (10, 7), (14, 1)];
+    for (kind, count) in powers.into_iter().chain(others) {
         for number in 0..count {
             wanted.extend((0..=4).map(|groups| (1, kind, number, groups)));
             wanted.extend((1..=4).map(|groups| (2, kind, number, groups)));
@@ -217,6 +219,6 @@ fn damaged_logs_reach_every_spot() {
         }
     }
     let met: BTreeSet<Spot> =
-        (0..times(30_000)).filter_map(|seed| spot(&damaged_log(seed, 20))).collect();
+        (0..times(60_000)).filter_map(|seed| spot(&damaged_log(seed, 20))).collect();
     assert_eq!(met, wanted);
 }

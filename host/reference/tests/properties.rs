@@ -163,7 +163,7 @@ impl Seen {
         self.phases.insert(report(&step.model).phase);
         self.moves.insert((report(before).phase, report(&step.model).phase));
         if let (Model::On(old), Model::On(new)) = (before, &step.model) {
-            let powered = event.profile().is_some();
+            let powered = event.powered().is_some();
             self.flags |= if powered { 0 } else { new.flags & !old.flags };
             self.wrapped |= !powered && new.sample.stamp < old.sample.stamp;
         }
@@ -201,6 +201,8 @@ fn plausible_logs_reach_every_part_of_the_model() {
         (9, false),
         (10, true),
         (10, false),
+        (11, true),
+        (11, false),
         (14, false),
     ]);
     assert_eq!(seen.kinds, possible);

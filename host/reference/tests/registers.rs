@@ -7,7 +7,9 @@ mod left;
 use reference::generate::{any_state, times, Rng};
 use reference::map::{Field, Holds, FIELDS, LAST};
 use reference::stored::{Stored, LENGTH, WRITABLE};
-use reference::{may_hold, read_register, Event, Model, Profile, Refusal, Sample, Setting, State};
+use reference::{
+    may_hold, read_register, Event, Model, Profile, Refusal, Sample, Setting, State, TsBand,
+};
 
 use left::on;
 
@@ -265,12 +267,13 @@ fn statuses_follow_what_flags_are_edges_of() {
     assert_eq!(seen(|state| state.sample.bits = 16), [0x10, 0, 0]);
     assert_eq!(seen(|state| state.sample.bits = 32), [0, 0, 0x04]);
     assert_eq!(seen(|state| state.watchdog = 40_000), [0x08, 0, 0]);
-    assert_eq!(seen(|state| state.sample.ts = 80_000), [0, 1, 0]);
-    assert_eq!(seen(|state| state.sample.ts = 30_000), [0, 2, 0]);
-    assert_eq!(seen(|state| state.sample.ts = 70_000), [0, 3, 0]);
-    assert_eq!(seen(|state| state.sample.ts = 44_000), [0, 4, 0]);
-    assert_eq!(seen(|state| state.second = 44_000), [0, 4, 0]);
-    assert_eq!(seen(|state| (state.sample.ts, state.second) = (44_000, 70_000)), [0, 7, 0]);
+    assert_eq!(seen(|state| state.bands[0] = TsBand::Cold), [0, 1, 0]);
+    assert_eq!(seen(|state| state.bands[0] = TsBand::Hot), [0, 2, 0]);
+    assert_eq!(seen(|state| state.bands[0] = TsBand::Cool), [0, 3, 0]);
+    assert_eq!(seen(|state| state.bands[0] = TsBand::Warm), [0, 4, 0]);
+    assert_eq!(seen(|state| state.bands[1] = TsBand::Warm), [0, 4, 0]);
+    assert_eq!(seen(|state| state.bands = [TsBand::Warm, TsBand::Cool]), [0, 7, 0]);
+    assert_eq!(seen(|state| (state.sample.ts, state.second) = (80_000, 0)), [0, 0, 0]);
     assert_eq!(seen(|state| state.cycle.times.trickle = 7_200_000), [0, 0, 0x10]);
     assert_eq!(seen(|state| state.cycle.times.precharge = 14_400_000), [0, 0, 0x10]);
     assert_eq!(seen(|state| state.cycle.times.fast = 72_000_000), [0, 0, 0x10]);

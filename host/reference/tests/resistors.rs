@@ -140,7 +140,7 @@ fn power_ons_that_are_said_otherwise_part() {
     let mut others = NUMBERS;
     others[0] += 1;
     let [one, other] = [NUMBERS, others].map(|numbers| of_numbers(&numbers));
-    let by_codes = Event::PowerOn(one.profile().expect("a power-on"));
+    let by_codes = Event::PowerOn(one.powered().expect("a power-on").profile);
     let logs = [one, other, by_codes].map(|event| spelled(&[Event::Service, event]));
     for (at, first) in logs.iter().enumerate() {
         assert_eq!(held(first), held(&logs[0]));
@@ -208,7 +208,7 @@ fn it_is_a_power_on() {
     for _ in 0..times(20_000) {
         let event = any_event(&mut rng);
         let not_powered = Some(Refusal::NotPowered);
-        let powers = matches!(event.kind(), 1 | 9);
+        let powers = matches!(event.kind(), 1 | 9 | 11);
         assert_eq!(off.step(&event).refusal == not_powered, !powers, "{event:?}");
         assert_ne!(on.step(&event).refusal, not_powered);
     }

@@ -4,6 +4,7 @@
 mod example;
 mod left;
 mod lines;
+mod seen;
 
 use std::collections::BTreeSet;
 
@@ -14,25 +15,18 @@ use reference::settle::base_voltage;
 use reference::state::phase;
 use reference::{
     band, number, partlog, read_register, record, report, stat, Band, Event, Model, Reading,
-    Refusal, Report, Sample, Stat, State, Step, TwoSample,
+    Refusal, Report, Sample, Stat, State, Step, TsBand, TwoSample,
 };
 
 use example::PROFILE;
 use left::on;
 use lines::{held, lines};
+use seen::{after, band_of, give, sample, two, write, THRESHOLDS};
 
 /// The least and the most TS of each band by the registers' resets: TH1 75,320,
 /// TH2 68,250, TH3 44,750, TH5 34,375.
 const ENDS: [[u32; 2]; 5] =
     [[44_751, 68_249], [75_320, 100_000], [0, 34_375], [68_250, 75_319], [34_376, 44_750]];
-
-/// TH1, TH2, TH3 and TH5 by their codes, of the data sheet.
-const THRESHOLDS: [[u32; 4]; 4] = [
-    [77_150, 75_320, 73_300, 70_900],
-    [70_900, 68_250, 65_350, 62_250],
-    [48_400, 44_750, 41_200, 37_700],
-    [41_200, 37_700, 34_375, 31_250],
-];
 
 /// The bands in the order of their numbers, and of the lists here.
 const BANDS: [Band; 5] = [Band::Normal, Band::Cold, Band::Hot, Band::Cool, Band::Warm];
@@ -51,26 +45,6 @@ fn powered() -> State {
     on(&Model::Off.step(&Event::PowerOn(PROFILE)))
 }
 
-fn give(state: &State, event: &Event) -> Step {
-    let step = Model::On(*state).step(event);
-    assert_eq!(step.refusal, None, "{event:?}");
-    step
-}
-
-/// The state after an accepted event.
-fn after(state: &State, event: &Event) -> State {
-    on(&give(state, event))
-}
-
-/// A sample of two cells that charge fast.
-fn sample(ts: u32) -> Sample {
-    Sample { stamp: 1_000, vin: 12_000, vbat: 7_600, ibat: 0, ts, bits: 0 }
-}
-
-fn two(ts: u32, second: u32) -> Event {
-    Event::ObserveTwo(TwoSample { sample: sample(ts), second })
-}
-
 /// A TS in a band.
 fn within(band: usize) -> u32 {
     ENDS[band][1] - 1
@@ -80,17 +54,9 @@ fn two_in(first: usize, second: usize) -> Event {
     two(within(first), within(second))
 }
 
-fn write(address: u32, byte: u32) -> Event {
-    Event::Write { address, byte }
-}
-
 fn ts_stat(state: &State) -> u32 {
     let byte = read_register(&Model::On(*state), 0x1E).expect("a powered model answers");
     u32::from(byte)
-}
-
-fn band_of(state: &State) -> Band {
-    band(&Model::On(*state))
 }
 
 /// Each pair of bands, and of their ends.
@@ -207,16 +173,13 @@ fn no_cut_and_no_share() {
     let Report { current, voltage, .. } = report(&Model::On(fast));
     assert_eq!((current, voltage), (1_500, 8_400));
     for _ in 0..times(5_000) {
-        let mut state = any_state(&mut rng);
-        state.stored.0[0x19] |= 3;
-        (state.sample.ts, state.second) = (state.stored.th2(), state.stored.th3());
-        if band_of(&state) != Band::Mixed {
-            continue;
-        }
-        let normal = State { sample: sample(55_000), second: 55_000, ..state };
-        assert_eq!(report(&Model::On(state)), report(&Model::On(normal)));
-        if (phase::TRICKLE..=phase::TAPER).contains(&state.phase) {
-            assert_eq!(report(&Model::On(state)).voltage, base_voltage(&state).0);
+        let held = any_state(&mut rng);
+        let mixed = State { bands: [TsBand::Cool, TsBand::Warm], ..held };
+        let normal = State { bands: [TsBand::Normal; 2], ..held };
+        assert_eq!(band_of(&mixed), Band::Mixed);
+        assert_eq!(report(&Model::On(mixed)), report(&Model::On(normal)));
+        if (phase::TRICKLE..=phase::TAPER).contains(&held.phase) {
+            assert_eq!(report(&Model::On(mixed)).voltage, base_voltage(&held).0);
         }
     }
 }
@@ -319,7 +282,8 @@ fn equal_values_act_as_kind_5() {
 /// A model with its thermistors the other way round.
 fn swapped(state: &State) -> State {
     let sample = Sample { ts: state.second, ..state.sample };
-    State { sample, second: state.sample.ts, ..*state }
+    let [first, second] = state.bands;
+    State { sample, second: state.sample.ts, bands: [second, first], ..*state }
 }
 
 fn swapped_step(step: Step) -> Step {
@@ -348,13 +312,14 @@ fn any_ts(rng: &mut Rng, state: &State) -> u32 {
 }
 
 /// Where a TS of the two is in the band of both by itself, kind 5 with that one
-/// does the same; else one is cool and the other warm.
+/// does the same; else one is cool and the other warm. By the first edition,
+/// which judges both afresh.
 #[test]
 fn as_kind_5_with_the_one_that_decides() {
     let mut rng = Rng::new(84);
     let mut met = BTreeSet::new();
     for _ in 0..times(20_000) {
-        let state = any_state(&mut rng);
+        let state = State { edition: 1, ..any_state(&mut rng) };
         let [first, second] = [(); 2].map(|()| any_ts(&mut rng, &state));
         let stamp = state.sample.stamp.wrapping_add(1_000);
         let seen = |ts| Sample { stamp, ..sample(ts) };
@@ -365,7 +330,8 @@ fn as_kind_5_with_the_one_that_decides() {
             .find(|one| band(&one.model) == band(&both.model));
         met.insert((one.is_some(), band(&both.model).number()));
         if let Some(one) = one {
-            let held = State { sample: seen(first), second, ..on(&one) };
+            let bands = on(&both).bands;
+            let held = State { sample: seen(first), second, bands, ..on(&one) };
             assert_eq!(Step { model: Model::On(held), ..one }, both);
         }
     }
@@ -525,11 +491,8 @@ impl Met {
         }
         self.seconds.insert(second);
         let (Model::On(state), None) = (step.model, step.refusal) else { return };
-        let alone = |ts| {
-            let sample = Sample { ts, ..state.sample };
-            band_of(&State { sample, second: ts, ..state }).number()
-        };
-        self.bands.insert((alone(sample.ts), alone(second)));
+        let [one, other] = state.bands.map(TsBand::number);
+        self.bands.insert((one, other));
         self.moves.insert((band(before).number(), band_of(&state).number()));
         self.thresholds.extend([(false, sample.ts), (true, second)]);
         self.equal |= sample.ts == second;

@@ -1,9 +1,11 @@
 //! Values at a model's thresholds, and beside them.
 
 use super::rng::Rng;
-use super::{MOST_MV, MOST_TS};
+use super::{BACK, MOST_MV, MOST_TS};
+use crate::band::TsBand;
 use crate::settle::{base_voltage, charge_voltage};
 use crate::state::{Stage, State, MOST_AHEAD_MS, UNITS_PER_SECOND};
+use crate::stored::Stored;
 use crate::volts::{CellMv, PackMv};
 
 /// A current at `centre`, beside it, or far from it.
@@ -69,13 +71,32 @@ pub(super) fn threshold_of_vbat(rng: &mut Rng, state: &State) -> u32 {
     rng.near(centre).min(MOST_MV)
 }
 
+/// A threshold of a band, or where one that is held is left: itself, or one
+/// beside it.
 pub(super) fn threshold_of_ts(rng: &mut Rng, state: &State) -> u32 {
     let stored = &state.stored;
     let held = [stored.th1(), stored.th2(), stored.th3(), stored.th5()];
-    let centre = match rng.within(0, 6) {
+    let threshold = rng.pick(&held);
+    let centre = match rng.within(0, 8) {
         0 => rng.pick(&[0, MOST_TS - 1, 55_000]),
         1 => rng.pick(&[70_900, 41_200, 37_700]),
-        _ => rng.pick(&held),
+        2 | 3 => rng.pick(&[threshold - BACK, threshold + BACK]),
+        4 => {
+            let held = rng.pick(&state.bands);
+            back_from(stored, held, BACK).unwrap_or(threshold)
+        }
+        _ => threshold,
     };
     rng.near(centre)
+}
+
+/// TS so far back past the threshold that lets a band in; normal has none.
+pub(super) fn back_from(stored: &Stored, band: TsBand, by: u32) -> Option<u32> {
+    match band {
+        TsBand::Normal => None,
+        TsBand::Cold => Some(stored.th1() - by),
+        TsBand::Hot => Some(stored.th5() + by),
+        TsBand::Cool => Some(stored.th2() - by),
+        TsBand::Warm => Some(stored.th3() + by),
+    }
 }

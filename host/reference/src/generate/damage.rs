@@ -16,7 +16,7 @@ pub(super) fn damage(rng: &mut Rng, log: &mut Vec<u8>) {
         return;
     }
     let at = rng.place(log.len());
-    let odd = rng.pick(&[0x00, 0x80, 0xFF, 0x08, 0x09, 0x0A, 0x0E, 0x12, 0x7F, 0x05]);
+    let odd = rng.pick(&[0x00, 0x80, 0xFF, 0x08, 0x09, 0x0A, 0x0B, 0x0E, 0x12, 0x7F, 0x05]);
     match rng.within(0, 9) {
         0 => log.truncate(at),
         1 => log[at] ^= 1 << rng.within(0, 7),
@@ -46,7 +46,7 @@ fn lengthen(rng: &mut Rng, log: &mut Vec<u8>) {
 /// Misspells a number of some record: cut off with the log, with a last group
 /// of zero, or too large. All numbers of a kind are equally likely.
 fn misspell(rng: &mut Rng, log: &mut Vec<u8>) {
-    let kind = rng.pick(&[1, 1, 1, 2, 3, 5, 5, 8, 9, 9, 9, 10, 10, 14]);
+    let kind = rng.pick(&[1, 1, 1, 1, 2, 3, 5, 5, 8, 9, 9, 9, 9, 10, 10, 11, 11, 11, 14]);
     let found = numbers(log, kind);
     if found.is_empty() {
         return lengthen(rng, log);

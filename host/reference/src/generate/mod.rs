@@ -6,9 +6,9 @@
 //! * [`damaged_log`]: a plausible log with bytes changed, cut or put in, or a
 //!   number misspelled.
 //! * [`log_pair`]: two logs that share a start.
-//! * [`any_event`], [`any_resistors`], [`any_two_sample`], [`any_run`]: single
-//!   events, in their ranges and out of them; [`unspelled_run`]: such as have no
-//!   spelling.
+//! * [`any_event`], [`any_edition`], [`any_resistors`], [`any_two_sample`],
+//!   [`any_run`]: single events, in their ranges and out of them;
+//!   [`unspelled_run`]: such as have no spelling.
 //! * [`any_state`], [`spoiled_state`]: models handed in from outside.
 
 use crate::event::Event;
@@ -16,6 +16,7 @@ use crate::record::{self, Reading};
 
 mod aim;
 mod damage;
+mod holds;
 mod probe;
 mod records;
 mod rng;
@@ -24,7 +25,7 @@ mod samples;
 mod states;
 mod walk;
 
-pub use records::{any_event, any_resistors};
+pub use records::{any_edition, any_event, any_resistors};
 pub use rng::Rng;
 pub use runs::{any_run, unspelled_run};
 pub use samples::any_two_sample;
@@ -40,6 +41,8 @@ const MOST_TS: u32 = 100_000;
 /// TS in the normal band, whatever the thresholds.
 const NORMAL_TS: u32 = 55_000;
 const MOST_RESISTOR: u32 = 100_000;
+/// How far back past its threshold a held band is left.
+const BACK: u32 = 1_000;
 
 /// How many rounds to run: `rounds`, times CHEUKDANE_TIMES for longer runs.
 pub fn times(rounds: u64) -> u64 {
@@ -106,11 +109,11 @@ pub fn log_pair(seed: u64, records: usize) -> (Vec<u8>, Vec<u8>) {
     }
 }
 
-/// The events, with power-ons that bring the same profiles, and observations
-/// that bring the same values, in place of theirs.
+/// The events, with power-ons that bring the same profiles and editions, and
+/// observations that bring the same values, in place of theirs.
 fn said_otherwise(rng: &mut Rng, events: &[Event]) -> Vec<Event> {
-    let other = |event: &Event| match (event.profile(), event.observed()) {
-        (Some(profile), _) => power_on(rng, profile),
+    let other = |event: &Event| match (event.powered(), event.observed()) {
+        (Some(edition), _) => power_on(rng, edition),
         (_, Some(two)) => observation_of(rng, two),
         _ => *event,
     };

@@ -1,12 +1,12 @@
 //! Episodes of a run that take one comparator, or one rule, to its points.
 
 use super::aim::{share_of, threshold_of_ts};
-use super::records::{edge_of_profile, power_on, soldered, span};
+use super::records::{edge_of_edition, power_on, soldered, span};
 use super::runs::{held_bytes, put};
 use super::samples::{as_of_one, edge_of_sample, one_or_both};
 use super::walk::Walk;
 use super::{MOST_MV, NORMAL_TS};
-use crate::event::{Event, Profile, Run, Sample, TwoSample, HIZ_PIN, SHUTDOWN};
+use crate::event::{EditionProfile, Event, Profile, Run, Sample, TwoSample, HIZ_PIN, SHUTDOWN};
 use crate::settings::Setting;
 use crate::settle::{base_voltage, charge_voltage};
 use crate::state::State;
@@ -21,7 +21,7 @@ impl Walk {
     /// One episode, begun where a charge is permitted.
     pub(super) fn probe(&mut self) {
         self.permit();
-        match self.rng.within(0, 17) {
+        match self.rng.within(0, 27) {
             0 => self.probe_vin(),
             1 => self.probe_short(),
             2..=4 => self.probe_low(),
@@ -35,6 +35,7 @@ impl Walk {
             13 => self.probe_run_resets(),
             14 => self.probe_run_serves(),
             15 | 16 => self.probe_thermistors(),
+            17..=26 => self.probe_holds(),
             _ => self.probe_done_in_fault(),
         }
     }
@@ -52,7 +53,7 @@ impl Walk {
         self.give(Event::Set { number: setting.number(), value });
     }
 
-    fn write_to(&mut self, address: u32, byte: u32) {
+    pub(super) fn write_to(&mut self, address: u32, byte: u32) {
         self.give(Event::Write { address, byte });
     }
 
@@ -293,10 +294,12 @@ impl Walk {
 
     /// A pin fault that an override ends, at a battery voltage where short
     /// and low keep what they were.
-    pub(super) fn probe_pin_fault(&mut self, profile: Profile) {
+    pub(super) fn probe_pin_fault(&mut self, edition: EditionProfile) {
+        let profile = edition.profile;
         let by_voltage = self.rng.coin();
         let (vchg, ichg) = if by_voltage { (0, profile.ichg) } else { (profile.vchg, 0) };
-        let fault = power_on(&mut self.rng, Profile { vchg, ichg, ..profile });
+        let profile = Profile { vchg, ichg, ..profile };
+        let fault = power_on(&mut self.rng, EditionProfile { profile, ..edition });
         self.give(fault);
         let (address, bit) = if by_voltage { (0x1B, 0x80) } else { (0x1C, 0x08) };
         self.write_to(address, bit);
@@ -342,8 +345,8 @@ impl Walk {
         for _ in 0..self.rng.within(1, 4) {
             let Some(state) = self.state() else { return };
             let event = if self.rng.coin() {
-                let profile = edge_of_profile(&mut self.rng);
-                power_on(&mut self.rng, profile)
+                let edition = edge_of_edition(&mut self.rng);
+                power_on(&mut self.rng, edition)
             } else {
                 let two = edge_of_sample(&mut self.rng, state.observed());
                 one_or_both(&mut self.rng, two)

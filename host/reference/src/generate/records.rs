@@ -4,12 +4,12 @@ use super::rng::Rng;
 use super::runs::{any_flag_register, any_run};
 use super::samples::{any_two_sample, one_or_both};
 use super::MOST_RESISTOR;
-use crate::event::{Event, Profile, Resistors};
+use crate::event::{EditionProfile, Event, Profile, Resistors};
 use crate::pins::{code_of, RESISTORS};
 
 /// Any event at all that has a spelling: ranges are often kept, and often not.
 pub fn any_event(rng: &mut Rng) -> Event {
-    match rng.within(1, 12) {
+    match rng.within(1, 13) {
         1 => Event::PowerOn(any_profile(rng)),
         2 => Event::Set { number: small_or_any(rng, 15), value: any_value(rng) },
         3 => Event::Write { address: any_address(rng), byte: small_or_any(rng, 256) },
@@ -19,6 +19,7 @@ pub fn any_event(rng: &mut Rng) -> Event {
         7 => Event::PowerOnResistors(any_resistors(rng)),
         8 => Event::WriteRun(any_run(rng)),
         9 => Event::ReadFlags { address: any_flag_register(rng) },
+        10 => Event::PowerOnEdition(any_edition(rng)),
         _ => {
             let two = any_two_sample(rng);
             one_or_both(rng, two)
@@ -51,7 +52,19 @@ fn any_value(rng: &mut Rng) -> u32 {
     }
 }
 
-pub(super) fn any_profile(rng: &mut Rng) -> Profile {
+/// The numbers of any power-on that says an edition.
+pub fn any_edition(rng: &mut Rng) -> EditionProfile {
+    let edition = if rng.once_in(4) { bad_edition(rng) } else { rng.within(1, 2) };
+    EditionProfile { profile: any_profile(rng), edition }
+}
+
+/// A number that is no edition's.
+fn bad_edition(rng: &mut Rng) -> u32 {
+    let odd = rng.any_length().max(3);
+    rng.pick(&[0, 3, 257, 258, 1 << 31 | 1, u32::MAX, odd])
+}
+
+fn any_profile(rng: &mut Rng) -> Profile {
     let mut profile = good_profile(rng);
     if rng.coin() {
         let odd = rng.any_length();
@@ -81,12 +94,14 @@ pub fn any_resistors(rng: &mut Rng) -> Resistors {
     soldered(rng, &profile)
 }
 
-/// A power-on that brings a profile, by its codes or by resistors.
-pub(super) fn power_on(rng: &mut Rng, profile: Profile) -> Event {
-    if rng.coin() {
-        Event::PowerOn(profile)
-    } else {
-        Event::PowerOnResistors(soldered(rng, &profile))
+/// A power-on that brings a profile and an edition: of the first, by its codes
+/// or by resistors too.
+pub(super) fn power_on(rng: &mut Rng, edition: EditionProfile) -> Event {
+    let profile = edition.profile;
+    match rng.within(0, 4) {
+        0 | 1 if edition.edition == 1 => Event::PowerOn(profile),
+        2 | 3 if edition.edition == 1 => Event::PowerOnResistors(soldered(rng, &profile)),
+        _ => Event::PowerOnEdition(edition),
     }
 }
 
@@ -135,12 +150,13 @@ pub(super) fn span(code: u32) -> (u32, u32) {
     (resistor - resistor / 50, resistor + resistor / 50)
 }
 
-/// A good profile with one number at an end of its range or just outside.
-pub(super) fn edge_of_profile(rng: &mut Rng) -> Profile {
-    let mut profile = good_profile(rng);
+/// A good profile and edition with one number at an end of its range or just
+/// outside.
+pub(super) fn edge_of_edition(rng: &mut Rng) -> EditionProfile {
+    let EditionProfile { mut profile, mut edition } = good_edition(rng);
     let code = rng.pick(&[0, 7, 8]);
     let seconds = rng.pick(&[0, 172_800, 172_801]);
-    match rng.within(0, 8) {
+    match rng.within(0, 9) {
         0 => profile.cell = code,
         1 => profile.vchg = code,
         2 => profile.ichg = code,
@@ -149,13 +165,19 @@ pub(super) fn edge_of_profile(rng: &mut Rng) -> Profile {
         5 => profile.trickle = seconds,
         6 => profile.precharge = seconds,
         7 => profile.fast = seconds,
-        _ => profile.watchdog = seconds,
+        8 => profile.watchdog = seconds,
+        _ => edition = rng.pick(&[0, 1, 2, 3]),
     }
-    profile
+    EditionProfile { profile, edition }
+}
+
+/// A power-on's numbers and edition in their ranges.
+pub(super) fn good_edition(rng: &mut Rng) -> EditionProfile {
+    EditionProfile { profile: good_profile(rng), edition: rng.within(1, 2) }
 }
 
 /// A power-on's numbers in their ranges, faults now and then.
-pub(super) fn good_profile(rng: &mut Rng) -> Profile {
+fn good_profile(rng: &mut Rng) -> Profile {
     Profile {
         cell: code(rng),
         vchg: code(rng),

@@ -30,12 +30,9 @@ pub(super) fn observation_of(rng: &mut Rng, two: TwoSample) -> Event {
 /// The sample that stands, with the TS of a thermistor that is in the band of
 /// both by itself, if one is.
 pub(super) fn as_of_one(state: &State) -> Sample {
-    let alone = |ts: u32| {
-        let sample = Sample { ts, ..state.sample };
-        band::of_state(&State { sample, second: ts, ..*state })
-    };
-    let both = band::of_state(state);
-    let ts = if alone(state.second) == both { state.second } else { state.sample.ts };
+    let [_, second] = state.bands;
+    let decides = second.of_both() == band::of_state(state);
+    let ts = if decides { state.second } else { state.sample.ts };
     Sample { ts, ..state.sample }
 }
 

@@ -1,10 +1,11 @@
 //! Models handed in from outside.
 
-use super::aim::{around, threshold_of_ts, threshold_of_vbat, threshold_of_vin};
-use super::records::good_profile;
+use super::aim::{around, back_from, threshold_of_ts, threshold_of_vbat, threshold_of_vin};
+use super::records::good_edition;
 use super::rng::Rng;
-use super::{MOST_TS, NORMAL_TS};
-use crate::event::{Sample, TwoSample};
+use super::{BACK, MOST_TS, NORMAL_TS};
+use crate::band::TsBand;
+use crate::event::{EditionProfile, Sample, TwoSample};
 use crate::pins::Pins;
 use crate::settings::{Setting, Settings};
 use crate::state::{Comparators, Cycle, PerStage, Stage, State, MOST_AHEAD_MS, UNITS_PER_SECOND};
@@ -13,7 +14,7 @@ use crate::volts::CellMv;
 
 /// Any state that a model may hold, related or not to what a run makes.
 pub fn any_state(rng: &mut Rng) -> State {
-    let profile = good_profile(rng);
+    let EditionProfile { profile, edition } = good_edition(rng);
     let limits =
         PerStage { trickle: profile.trickle, precharge: profile.precharge, fast: profile.fast };
     let phase = rng.within(0, 7);
@@ -24,9 +25,11 @@ pub fn any_state(rng: &mut Rng) -> State {
         ceiling: CellMv(profile.ceiling),
         limits,
         period: profile.watchdog,
+        edition,
         settings: any_settings(rng),
         stored: any_stored(rng),
         comparators: any_comparators(rng),
+        bands: [(); 2].map(|()| rng.pick(&TsBand::ALL)),
         cycle: Cycle { times: any_times(rng, &limits, phase), done: rng.coin() },
         watchdog: any_below(rng, profile.watchdog * 1_000 + 1),
         sample,
@@ -36,17 +39,26 @@ pub fn any_state(rng: &mut Rng) -> State {
     };
     state.sample.vin = if rng.coin() { 5_000 } else { threshold_of_vin(rng) };
     state.sample.vbat = threshold_of_vbat(rng, &state);
-    state.sample.ts = threshold_of_ts(rng, &state).min(MOST_TS);
+    state.sample.ts = any_ts(rng, &state, state.bands[0]);
     state.second = any_second(rng, &state);
     state.sample.ibat = around(rng, state.settings[Setting::Iterm] as i32);
     state.sample.bits = if rng.coin() { 0 } else { rng.within(0, 63) };
     state
 }
 
-/// The second thermistor's TS: equal, normal, or at a threshold.
+/// A thermistor's TS: at a threshold, or where its band is just held or left.
+fn any_ts(rng: &mut Rng, state: &State, band: TsBand) -> u32 {
+    let by = rng.pick(&[0, 1, BACK - 1, BACK - 1, BACK, BACK + 1]);
+    match back_from(&state.stored, band, by) {
+        Some(ts) if rng.coin() => ts,
+        _ => threshold_of_ts(rng, state).min(MOST_TS),
+    }
+}
+
+/// The second thermistor's TS: equal, normal, or as the first's may be.
 fn any_second(rng: &mut Rng, state: &State) -> u32 {
-    let threshold = threshold_of_ts(rng, state).min(MOST_TS);
-    rng.pick(&[state.sample.ts, NORMAL_TS, threshold, threshold])
+    let other = any_ts(rng, state, state.bands[1]);
+    rng.pick(&[state.sample.ts, NORMAL_TS, other, other])
 }
 
 /// A number below `end`, which isn't 0: often near it, or 0.
@@ -87,6 +99,10 @@ fn any_settings(rng: &mut Rng) -> Settings {
 fn any_stored(rng: &mut Rng) -> Stored {
     let mut bytes = WRITABLE.map(|mask| rng.any() as u8 & mask);
     bytes[0x16] = bytes[0x16] & !7 | rng.within(1, 6) as u8;
+    if rng.coin() {
+        // EN_JEITA and EN_TS.
+        bytes[0x19] |= 3;
+    }
     Stored(bytes)
 }
 
@@ -110,7 +126,7 @@ pub fn spoiled_state(rng: &mut Rng) -> State {
 }
 
 fn spoil(rng: &mut Rng, state: &mut State) {
-    match rng.within(0, 19) {
+    match rng.within(0, 20) {
         0 => state.pins.cell = 8,
         1 => state.pins.vchg = 8,
         2 => state.pins.ichg = 8,
@@ -129,6 +145,7 @@ fn spoil(rng: &mut Rng, state: &mut State) {
         16 => state.sample.bits = 64,
         17 => state.phase = 8,
         18 => state.flags = 4_096,
+        19 => state.edition = rng.pick(&[0, 3, 257, u32::MAX]),
         _ => spoil_time(rng, state),
     }
 }

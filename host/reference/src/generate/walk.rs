@@ -1,7 +1,7 @@
 //! A plausible run, made event by event.
 
 use super::aim::{around, gap, threshold_of_ts, threshold_of_vbat, threshold_of_vin};
-use super::records::{any_event, any_profile, good_profile, power_on};
+use super::records::{any_edition, any_event, good_edition, power_on};
 use super::rng::Rng;
 use super::runs::{any_flag_register, held_run};
 use super::samples::{observation, one_or_both};
@@ -37,11 +37,11 @@ impl Walk {
     }
 
     fn power_on(&mut self) {
-        let mut profile = good_profile(&mut self.rng);
+        let mut edition = good_edition(&mut self.rng);
         if self.rng.once_in(10) {
-            profile = any_profile(&mut self.rng);
+            edition = any_edition(&mut self.rng);
         }
-        let event = power_on(&mut self.rng, profile);
+        let event = power_on(&mut self.rng, edition);
         self.give(event);
     }
 
@@ -72,13 +72,13 @@ impl Walk {
     }
 
     fn fault_a_pin(&mut self) {
-        let profile = good_profile(&mut self.rng);
-        self.probe_pin_fault(profile);
+        let edition = good_edition(&mut self.rng);
+        self.probe_pin_fault(edition);
     }
 
     fn solder_a_pin(&mut self) {
-        let profile = good_profile(&mut self.rng);
-        self.probe_resistor(profile);
+        let edition = good_edition(&mut self.rng);
+        self.probe_resistor(edition.profile);
     }
 
     fn odd_event(&mut self) {
