@@ -5,6 +5,7 @@ ghost use Rattle.settle_bands.specs.Holding.{byHeld, backBy, endedBy, at
 use crate::joined;
 use crate::thresholds;
 use crate::thresholds::Marks;
+use state_parts::band;
 use state_parts::band::Bands;
 use state_parts::band::TsBand;
 use state_parts::profile::Profile;
@@ -52,9 +53,8 @@ fn is_ended(m: Marks, held: TsBand) -> bool
 fn at_once(fresh: TsBand) -> bool
     ensures { λ r. ⌜ r ≡ atOnce fresh ⌝ }
 {
-    let cold = joined::is_band(TsBand::Cold, fresh);
-    let hot = joined::is_band(TsBand::Hot, fresh);
-    cold | hot
+    let number = band::ts_number(fresh);
+    (number == joined::COLD) | (number == joined::HOT)
 }
 
 // The band held, if it stays; else the one judged afresh.

@@ -1,28 +1,19 @@
 // The pack's band: what the bands of its two thermistors come to.
 ghost use mathlib.Core.Path.{_≡_};
-ghost use Rattle.settle_bands.specs.Joined.{isBand, either, firstJoined, joinedOf, packBand};
+ghost use Rattle.settle_bands.specs.Joined.{firstJoined, joinedOf, packBand};
 use state_parts::band;
 use state_parts::band::Band;
 use state_parts::band::Bands;
 use state_parts::band::TsBand;
 
-// Whether a thermistor's band is this one.
-pub(crate) fn is_band(is: TsBand, of: TsBand) -> bool
-    ensures { λ r. ⌜ r ≡ isBand is of ⌝ }
-{
-    let wanted = band::ts_number(is);
-    let number = band::ts_number(of);
-    number == wanted
-}
+// The numbers of the four bands that aren't normal.
+pub(crate) const COLD: u32 = 1;
 
-// Whether one of two bands is this one.
-fn either(is: TsBand, first: TsBand, second: TsBand) -> bool
-    ensures { λ r. ⌜ r ≡ either is first second ⌝ }
-{
-    let a = is_band(is, first);
-    let b = is_band(is, second);
-    a | b
-}
+pub(crate) const HOT: u32 = 2;
+
+const COOL: u32 = 3;
+
+const WARM: u32 = 4;
 
 // The judged order, by what either thermistor is.
 fn first_joined(cold: bool, hot: bool, mixed: bool, cool: bool, warm: bool) -> Band
@@ -47,10 +38,12 @@ fn first_joined(cold: bool, hot: bool, mixed: bool, cool: bool, warm: bool) -> B
 pub fn joined(first: TsBand, second: TsBand) -> Band
     ensures { λ r. ⌜ r ≡ joinedOf first second ⌝ }
 {
-    let cold = either(TsBand::Cold, first, second);
-    let hot = either(TsBand::Hot, first, second);
-    let cool = either(TsBand::Cool, first, second);
-    let warm = either(TsBand::Warm, first, second);
+    let a = band::ts_number(first);
+    let b = band::ts_number(second);
+    let cold = (a == COLD) | (b == COLD);
+    let hot = (a == HOT) | (b == HOT);
+    let cool = (a == COOL) | (b == COOL);
+    let warm = (a == WARM) | (b == WARM);
     first_joined(cold, hot, cool & warm, cool, warm)
 }
 
