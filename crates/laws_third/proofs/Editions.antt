@@ -143,4 +143,7 @@ bands-agree = record {
   differ = λ k m q h. differs k m q (only-ts-band k m (freshAt k m) h);
   pack = λ m a b i. joinTable (afresh firstTs m a i) (afresh secondTs m b i);
   first = none-first;
+  moment = λ k m n b.
+      let same = afresh k m (none-first k m n) in
+      (λ h. sym same ∙ only-ts-band k m b h, λ e. one-ts-band k m b .1 (same ∙ e));
 }

@@ -1,7 +1,7 @@
 -- 02, R-8: "the bands agree wherever the hold keeps nothing that the first edition would leave", of every run.
 use Prim.Native.Nat.{ℕ, _+_, _<_}
 use mathlib.Core.Path.{_≡_}
-use mathlib.Core.Logic.{_≢_}
+use mathlib.Core.Logic.{_≢_, _↔_}
 use Rattle.state_parts.specs.declared.band.TsBand.{TsBand}
 use Rattle.state_parts.specs.declared.band.TsBand.the-variants.{Normal, Cold, Cool, Warm, Hot}
 use Rattle.step_turns.specs.declared.later.Later.{Later}
@@ -39,5 +39,6 @@ pub record BandsAgree : Type 0 where
   pub differ : (k : Thermistor) (m : Run) → KeptAt k m → ¬ InTsBand (freshAt k m) k m
   -- so is the pack's, of two of which nothing is kept
   pub pack : (m : Run) → ¬ KeptAt firstTs m → ¬ KeptAt secondTs m → bandAt m ≡ joinTable (freshAt firstTs m) (freshAt secondTs m)
-  -- and by the first edition nothing is
+  -- and by the first edition nothing is: a thermistor is in the band that 01's order judges, by the moment alone
   pub first : (k : Thermistor) (m : Run) → profileOf m .edition ≢ 2 → ¬ KeptAt k m
+  pub moment : (k : Thermistor) (m : Run) → profileOf m .edition ≢ 2 → (b : TsBand) → InTsBand b k m ↔ (freshAt k m ≡ b)
