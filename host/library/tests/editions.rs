@@ -5,13 +5,15 @@
 
 use library::both;
 use library::image::{self, Held, Powered};
-use library::layout::{bytes_of, words_of, BANDS, FLAGS, IMAGE, PROFILE, SAMPLE, SHOWN, WORD};
+use library::layout::{bytes_of, words_of, BANDS, FLAGS, IMAGE, PROFILE, SAMPLE, WORD};
 use library::left::{
-    any_image, by_each, each_apart, each_misspelled, given, replayed, with_word, word, written,
+    alone, any_damaged, any_image, bands, by_each, each_apart, each_misspelled, each_refused,
+    ends_6, given, leaves_alike, with_bands, with_number, with_word, word, written, written_apart,
+    POWER_ON_REFUSED,
 };
 use library::tally::Tally;
 use reference::generate::{
-    any_edition, any_state, damaged_log, events_of, plausible_events, spelled, times, Rng,
+    any_edition, any_state, damaged_log, plausible_events, spelled, times, Rng,
 };
 use reference::record::numbers_of;
 use reference::{Event, State, TsBand};
@@ -29,22 +31,16 @@ const MIDDLE: u32 = 55_000;
 /// Kind 11's numbers, each in its range.
 const NUMBERS: [u32; 11] = [2, 5, 4, 3_333, 77, 4_500, 3_600, 7_200, 36_000, 160, 2];
 
-fn with(index: usize, value: u32) -> [u32; 11] {
-    let mut numbers = NUMBERS;
-    numbers[index] = value;
-    numbers
+/// The same with this edition.
+fn with_edition(edition: u32) -> [u32; 11] {
+    with_number(NUMBERS, EDITION, edition)
 }
 
 /// The image after a power-on of this edition.
 fn powered(edition: u32) -> Vec<u8> {
-    let (number, image, _) = by_each(&[0; IMAGE], POWER_ON_EDITION, &with(EDITION, edition));
+    let (number, image, _) = by_each(&[0; IMAGE], POWER_ON_EDITION, &with_edition(edition));
     assert_eq!((number, word(&image, PROFILE + EDITION)), (0, edition));
     image
-}
-
-/// The two thermistors' bands that an image has.
-fn bands(image: &[u8]) -> [u32; 2] {
-    [word(image, BANDS), word(image, BANDS + 1)]
 }
 
 /// The image after an observation, by each call, of a battery that charges fast.
@@ -129,8 +125,7 @@ fn every_threshold_as_it_stands() {
                 let ts = if field < 2 { at - by } else { at + by };
                 let [afresh, held] = [1, 2].map(|edition| {
                     let image = seen(&powered(edition), [ts, MIDDLE]);
-                    let image = with_word(&with_word(&image, BANDS, band), BANDS + 1, band);
-                    bands(&wrote(&image, 0x18, byte))
+                    bands(&wrote(&with_bands(&image, [band; 2]), 0x18, byte))
                 });
                 let wanted = if by < 1_000 { [band, 0] } else { afresh };
                 assert_eq!(held, wanted, "band {band}, {by} back from {at}");
@@ -145,8 +140,7 @@ const HELD: [(u32, u32, u32); 4] = [(1, 74_321, 3), (2, 35_374, 4), (3, 67_251, 
 
 /// The image of the second edition in which the hold alone keeps both bands.
 fn held_in(band: u32, ts: u32) -> Vec<u8> {
-    let image = with_word(&with_word(&powered(2), BANDS, band), BANDS + 1, band);
-    let image = seen(&image, [ts, ts]);
+    let image = seen(&with_bands(&powered(2), [band; 2]), [ts, ts]);
     assert_eq!(bands(&image), [band, band]);
     image
 }
@@ -255,7 +249,7 @@ fn any_bands_of_any_image() {
 fn every_pair_of_held_bands() {
     let start = powered(2);
     for (first, second) in (0..25).map(|pair| (pair / 5, pair % 5)) {
-        let image = with_word(&with_word(&start, BANDS, first), BANDS + 1, second);
+        let image = with_bands(&start, [first, second]);
         assert_eq!(bands(&seen(&image, [MIDDLE, MIDDLE])), [0, 0]);
         let last = |band: u32| HELD.iter().find(|row| row.0 == band).map_or(MIDDLE, |row| row.1);
         assert_eq!(bands(&seen(&image, [last(first), last(second)])), [first, second]);
@@ -279,12 +273,8 @@ fn beside_kind_1_on_any_image() {
     let mut rng = Rng::new(97);
     let mut tally = Tally::default();
     for _ in 0..times(30_000) {
-        let mut image = any_image(&mut rng);
-        if rng.once_in(3) {
-            let index = rng.place(IMAGE / WORD);
-            let odd = rng.any_length();
-            image = with_word(&image, index, rng.pick(&[0, 1, 2, 3, 4, 5, 8, odd]));
-        }
+        let image = any_image(&mut rng);
+        let image = any_damaged(&mut rng, image, &[0, 1, 2, 3, 4, 5, 8]);
         let mut numbers = numbers_of(&Event::PowerOnEdition(any_edition(&mut rng)));
         let one = given(&image, POWER_ON, &numbers[..10]);
         numbers[EDITION] = 1;
@@ -310,9 +300,7 @@ fn on_any_model() {
         let image = any_image(&mut rng);
         let edition = any_edition(&mut rng);
         let left = by_each(&image, POWER_ON_EDITION, &numbers_of(&Event::PowerOnEdition(edition)));
-        if left.0 != 0 {
-            assert_eq!((left.1, left.2), (image, [0xEE; SHOWN]));
-        } else {
+        if left.0 == 0 {
             assert_eq!(word(&left.1, PROFILE + EDITION), edition.edition);
             assert_eq!(bands(&left.1), [0, 0]);
         }
@@ -325,36 +313,19 @@ fn on_any_model() {
 #[test]
 fn logs_of_kind_1_said_by_kind_11() {
     for seed in 0..times(2_000) {
-        let events = plausible_events(seed + 13_000_000, 40);
-        let said = |event: &Event| match event {
+        leaves_alike(seed + 13_000_000, |event| match event {
             Event::PowerOn(profile) => Event::PowerOnEdition(profile.of_first()),
             _ => *event,
-        };
-        let otherwise: Vec<Event> = events.iter().map(said).collect();
-        let [one, other] = [events, otherwise].map(|events| {
-            let mut image = vec![0; IMAGE];
-            let answer = both::replay(&mut image, &spelled(&events), 0);
-            assert_eq!((answer.code, answer.records), (0, events.len() as u64));
-            image
         });
-        assert_eq!(one, other);
     }
 }
 
-/// A number of each that is one too many, or too few.
-const REFUSED: [(usize, u32); 22] = [
+/// Codes of each pin that are too many, and what is no edition.
+const REFUSED: [(usize, u32); 14] = [
     (0, 8),
     (1, 8),
     (2, 8),
     (2, u32::MAX),
-    (3, 33_001),
-    (5, 4_349),
-    (5, 4_715),
-    (6, 172_801),
-    (7, 172_801),
-    (8, 172_801),
-    (9, 172_801),
-    (9, u32::MAX),
     (EDITION, 0),
     (EDITION, 3),
     (EDITION, 4),
@@ -371,21 +342,16 @@ const REFUSED: [(usize, u32); 22] = [
 #[test]
 fn a_refused_one_changes_no_byte() {
     for image in [vec![0; IMAGE], powered(1), held_in(3, 67_251)] {
-        for (index, value) in REFUSED {
-            let left = by_each(&image, POWER_ON_EDITION, &with(index, value));
-            assert_eq!(left, (5, image.clone(), [0xEE; SHOWN]), "{index} {value}");
-        }
+        each_refused(&image, POWER_ON_EDITION, NUMBERS, &REFUSED, 5);
+        each_refused(&image, POWER_ON_EDITION, NUMBERS, &POWER_ON_REFUSED, 5);
     }
 }
 
-/// 6 is for other kinds than a power-on's, and a refused power-on is none.
 #[test]
 fn it_ends_6() {
-    let service = |image: &[u8]| given(image, 6, &[]).0;
-    let refused = given(&[0; IMAGE], POWER_ON_EDITION, &with(EDITION, 3));
-    assert_eq!((refused.0, service(&refused.1)), (5, 6));
-    assert_eq!(service(&powered(1)), 0);
-    assert_eq!(service(&powered(2)), 0);
+    for edition in [1, 2] {
+        ends_6(POWER_ON_EDITION, &with_edition(edition), &with_edition(3));
+    }
 }
 
 /// The image has the eleven numbers in the log's order; kind 1's edition is 1.
@@ -430,8 +396,8 @@ fn its_record() {
 #[test]
 fn logs_are_compared_as_they_are() {
     let mut logs = vec![written(POWER_ON, &NUMBERS[..10]), written(9, &NUMBERS[..10])];
-    logs.extend((0..10).map(|index| written(POWER_ON_EDITION, &with(index, NUMBERS[index] + 1))));
-    logs.extend([0, 1, 2, 3].map(|edition| written(POWER_ON_EDITION, &with(EDITION, edition))));
+    logs.extend(written_apart(POWER_ON_EDITION, NUMBERS, 10));
+    logs.extend([0, 1, 2, 3].map(|edition| written(POWER_ON_EDITION, &with_edition(edition))));
     each_apart(&logs);
 }
 
@@ -449,15 +415,7 @@ fn of_generated_logs() {
     for seed in 0..times(2_000) {
         let logs = [spelled(&plausible_events(seed + 14_000_000, 30))];
         for log in logs.into_iter().chain([damaged_log(seed + 14_000_000, 30)]) {
-            for event in events_of(&log) {
-                if let Event::PowerOnEdition(_) = event {
-                    let image = any_image(&mut rng);
-                    let numbers = numbers_of(&event);
-                    let left = given(&image, POWER_ON_EDITION, &numbers);
-                    assert_eq!(left.1, replayed(&image, POWER_ON_EDITION, &numbers));
-                    tally.count(left.0);
-                }
-            }
+            alone(&mut rng, &log, POWER_ON_EDITION, &mut tally);
         }
     }
     tally.met_exactly([0, 5]);

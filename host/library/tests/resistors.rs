@@ -5,7 +5,8 @@
 use library::both;
 use library::layout::{bytes_of, FORMAT, IMAGE, PROFILE, SHOWN, WORD};
 use library::left::{
-    any_image, by_each, each_apart, each_misspelled, given, played, replayed, written, Left,
+    any_image, by_each, each_apart, each_misspelled, each_refused, ends_6, given, with_number,
+    written, written_apart, Left, POWER_ON_REFUSED,
 };
 use library::tally::Tally;
 use reference::generate::{any_resistors, times, Rng};
@@ -22,23 +23,18 @@ const MOST: u32 = 100_000;
 const NUMBERS: [u32; 10] = [6_040, 13_700, 10_500, 3_333, 77, 4_500, 3_600, 7_200, 36_000, 160];
 const WITH_CODES: [u32; 10] = [2, 5, 4, 3_333, 77, 4_500, 3_600, 7_200, 36_000, 160];
 
-fn with(mut numbers: [u32; 10], index: usize, value: u32) -> [u32; 10] {
-    numbers[index] = value;
-    numbers
-}
-
 /// Each of the three pins' resistors over all ohms, from none to one too many.
 #[test]
 fn every_ohm_of_every_pin() {
     let off = [0; IMAGE];
     for pin in 0..3 {
         let by_codes: Vec<Left> =
-            (0..8).map(|code| given(&off, BY_CODES, &with(WITH_CODES, pin, code))).collect();
+            (0..8).map(|code| given(&off, BY_CODES, &with_number(WITH_CODES, pin, code))).collect();
         for ohms in 0..=MOST {
-            let left = given(&off, BY_RESISTORS, &with(NUMBERS, pin, ohms));
+            let left = given(&off, BY_RESISTORS, &with_number(NUMBERS, pin, ohms));
             assert_eq!(left, by_codes[code_of(ohms) as usize], "pin {pin}, {ohms} ohms");
         }
-        assert_eq!(given(&off, BY_RESISTORS, &with(NUMBERS, pin, MOST + 1)).0, 5);
+        assert_eq!(given(&off, BY_RESISTORS, &with_number(NUMBERS, pin, MOST + 1)).0, 5);
     }
 }
 
@@ -56,32 +52,14 @@ fn as_kind_1_on_any_model() {
         let codes = numbers[..3].iter().map(|ohms| if *ohms > MOST { 8 } else { code_of(*ohms) });
         let with_codes: Vec<u32> = codes.chain(numbers[3..].iter().copied()).collect();
         assert_eq!(left, given(&image, BY_CODES, &with_codes));
-        if left.0 != 0 {
-            assert_eq!((left.1, left.2), (image, [0xEE; SHOWN]));
-        }
         tally.count(left.0);
     }
     tally.met_exactly([0, 5]);
 }
 
-/// A number of each that is one too many, or too few.
-const REFUSED: [(usize, u32); 15] = [
-    (0, MOST + 1),
-    (0, u32::MAX),
-    (1, MOST + 1),
-    (1, u32::MAX),
-    (2, MOST + 1),
-    (2, u32::MAX),
-    (3, 33_001),
-    (3, MOST),
-    (5, 4_349),
-    (5, 4_715),
-    (6, 172_801),
-    (7, 172_801),
-    (8, 172_801),
-    (9, 172_801),
-    (9, u32::MAX),
-];
+/// Ohms of each pin that are too many.
+const REFUSED: [(usize, u32); 6] =
+    [(0, MOST + 1), (0, u32::MAX), (1, MOST + 1), (1, u32::MAX), (2, MOST + 1), (2, u32::MAX)];
 
 /// A refused one leaves a model that is off, or on, as it was.
 #[test]
@@ -89,24 +67,14 @@ fn a_refused_one_changes_no_byte() {
     let off = vec![0; IMAGE];
     let on = given(&off, BY_RESISTORS, &NUMBERS).1;
     for image in [off, on] {
-        for (index, value) in REFUSED {
-            let numbers = with(NUMBERS, index, value);
-            let wanted = (5, image.clone(), [0xEE; SHOWN]);
-            assert_eq!(given(&image, BY_RESISTORS, &numbers), wanted);
-            assert_eq!(played(&image, BY_RESISTORS, &numbers), wanted);
-            assert_eq!(replayed(&image, BY_RESISTORS, &numbers), image);
-        }
+        each_refused(&image, BY_RESISTORS, NUMBERS, &REFUSED, 5);
+        each_refused(&image, BY_RESISTORS, NUMBERS, &POWER_ON_REFUSED, 5);
     }
 }
 
-/// 6 is for other kinds than a power-on's, and a refused power-on is none.
 #[test]
 fn it_ends_6() {
-    let service = |image: &[u8]| given(image, 6, &[]).0;
-    let refused = given(&[0; IMAGE], BY_RESISTORS, &with(NUMBERS, 0, MOST + 1));
-    assert_eq!((refused.0, service(&refused.1)), (5, 6));
-    let taken = given(&[0; IMAGE], BY_RESISTORS, &NUMBERS);
-    assert_eq!((taken.0, service(&taken.1)), (0, 0));
+    ends_6(BY_RESISTORS, &NUMBERS, &with_number(NUMBERS, 0, MOST + 1));
 }
 
 /// The image has the codes where kind 1's numbers stand, and no ohms; then the
@@ -137,7 +105,7 @@ fn an_older_image_is_5() {
 #[test]
 fn logs_are_compared_as_they_are() {
     let mut logs = vec![written(BY_CODES, &WITH_CODES), written(BY_CODES, &NUMBERS)];
-    logs.extend((0..3).map(|pin| written(BY_RESISTORS, &with(NUMBERS, pin, NUMBERS[pin] + 1))));
+    logs.extend(written_apart(BY_RESISTORS, NUMBERS, 3));
     logs.push(written(BY_RESISTORS, &NUMBERS));
     each_apart(&logs);
 }

@@ -5,11 +5,10 @@
 
 use library::both;
 use library::image::{self, Held, Powered};
-use library::layout::{
-    bytes_of, words_of, BANDS, FLAGS, IMAGE, PHASE, REPORT, SAMPLE, SHOWN, WORD,
-};
+use library::layout::{bytes_of, words_of, FLAGS, IMAGE, PHASE, REPORT, SAMPLE, SHOWN};
 use library::left::{
-    any_image, by_each, each_apart, each_misspelled, given, replayed, with_word, word, written,
+    alone, any_damaged, any_image, bands, by_each, each_apart, each_misspelled, each_refused,
+    given, leaves_alike, with_bands, with_number, with_word, word, written, written_apart,
 };
 use library::tally::Tally;
 use reference::generate::{
@@ -45,16 +44,8 @@ fn powered() -> Vec<u8> {
     image
 }
 
-fn with(index: usize, value: u32) -> [u32; 7] {
-    let mut numbers = NUMBERS;
-    numbers[index] = value;
-    numbers
-}
-
 fn of_two(ts: u32, second: u32) -> [u32; 7] {
-    let mut numbers = with(SECOND, second);
-    numbers[SECOND - 1] = ts;
-    numbers
+    with_number(with_number(NUMBERS, SECOND, second), SECOND - 1, ts)
 }
 
 /// A sample for an image, mostly at a time that passes.
@@ -74,9 +65,6 @@ fn on_any_model() {
         let image = any_image(&mut rng);
         let two = any_two_for(&mut rng, &image);
         let left = by_each(&image, OBSERVE_TWO, &numbers_of(&Event::ObserveTwo(two)));
-        if left.0 != 0 {
-            assert_eq!((left.1, left.2), (image, [0xEE; SHOWN]), "a refusal changes no byte");
-        }
         tally.count(left.0);
     }
     tally.met_exactly([0, 5, 6, 7]);
@@ -89,13 +77,9 @@ fn equal_values_are_kind_5() {
     let mut rng = Rng::new(92);
     let mut tally = Tally::default();
     for _ in 0..times(40_000) {
-        let mut image = any_image(&mut rng);
+        let image = any_image(&mut rng);
         let sample = any_two_for(&mut rng, &image).sample;
-        if rng.once_in(3) {
-            let index = rng.place(IMAGE / WORD);
-            let odd = rng.any_length();
-            image = with_word(&image, index, rng.pick(&[0, 1, 7, 8, MOST, MOST + 1, odd]));
-        }
+        let image = any_damaged(&mut rng, image, &[0, 1, 7, 8, MOST, MOST + 1]);
         let one = given(&image, OBSERVE, &numbers_of(&Event::Observe(sample)));
         let equal = numbers_of(&Event::ObserveTwo(sample.of_two()));
         assert_eq!(equal[SECOND - 1], equal[SECOND]);
@@ -109,19 +93,10 @@ fn equal_values_are_kind_5() {
 #[test]
 fn logs_of_kind_5_said_by_kind_10() {
     for seed in 0..times(2_000) {
-        let events = plausible_events(seed + 11_000_000, 40);
-        let said = |event: &Event| match event {
+        leaves_alike(seed + 11_000_000, |event| match event {
             Event::Observe(sample) => Event::ObserveTwo(sample.of_two()),
             _ => *event,
-        };
-        let otherwise: Vec<Event> = events.iter().map(said).collect();
-        let [one, other] = [events, otherwise].map(|events| {
-            let mut image = vec![0; IMAGE];
-            let answer = both::replay(&mut image, &spelled(&events), 0);
-            assert_eq!((answer.code, answer.records), (0, events.len() as u64));
-            image
         });
-        assert_eq!(one, other);
     }
 }
 
@@ -141,7 +116,7 @@ fn every_pair_of_bands() {
         for (second, wanted) in row.into_iter().enumerate() {
             let numbers = of_two(OF_BANDS[first], OF_BANDS[second]);
             let (number, image, shown) = by_each(&start, OBSERVE_TWO, &numbers);
-            let held = [word(&image, BANDS), word(&image, BANDS + 1)].map(|band| band as usize);
+            let held = bands(&image).map(|band| band as usize);
             assert_eq!((number, held), (0, [first, second]));
             assert_eq!(both::register(&image, TS_STAT).byte, wanted, "{first} {second}");
             let suspended = matches!(wanted, 1 | 2 | 7);
@@ -178,10 +153,7 @@ fn the_mixed_band_of_any_image() {
         let image = image::of(&Held::On(Powered::new(rng.within(0, 7), rng.any(), state)));
         for phase in 0..8 {
             let image = with_word(&image, PHASE, phase);
-            let in_bands = |[first, second]: [u32; 2]| {
-                with_word(&with_word(&image, BANDS, first), BANDS + 1, second)
-            };
-            let [normal, mixed] = [[0, 0], [3, 4]].map(in_bands);
+            let [normal, mixed] = [[0, 0], [3, 4]].map(|bands| with_bands(&image, bands));
             let [one, other] = [&normal, &mixed].map(|image| {
                 let mut report = [0xEE; REPORT];
                 assert_eq!(both::report(image, &mut report).number, 0);
@@ -265,18 +237,15 @@ const REFUSED: [(usize, u32); 12] = [
 #[test]
 fn a_refused_one_changes_no_byte() {
     let (on, off) = (powered(), vec![0; IMAGE]);
-    let ahead = |numbers: [u32; 7]| [&[3_601_001], &numbers[1..]].concat();
-    for (index, value) in REFUSED {
-        for numbers in [with(index, value).to_vec(), ahead(with(index, value))] {
-            let refused = |number, image: &[u8]| (number, image.to_vec(), [0xEE; SHOWN]);
-            assert_eq!(by_each(&on, OBSERVE_TWO, &numbers), refused(5, &on));
-            assert_eq!(by_each(&off, OBSERVE_TWO, &numbers), refused(6, &off));
-        }
+    let ahead = with_number(NUMBERS, 0, 3_601_001);
+    for numbers in [NUMBERS, ahead] {
+        each_refused(&on, OBSERVE_TWO, numbers, &REFUSED, 5);
+        each_refused(&off, OBSERVE_TWO, numbers, &REFUSED, 6);
     }
-    assert_eq!(by_each(&on, OBSERVE_TWO, &ahead(NUMBERS)).0, 7);
+    assert_eq!(by_each(&on, OBSERVE_TWO, &ahead).0, 7);
     for index in [SECOND - 1, SECOND] {
         for value in [0, MOST] {
-            assert_eq!(by_each(&on, OBSERVE_TWO, &with(index, value)).0, 0);
+            assert_eq!(by_each(&on, OBSERVE_TWO, &with_number(NUMBERS, index, value)).0, 0);
         }
     }
 }
@@ -304,7 +273,7 @@ fn its_record() {
 fn logs_are_compared_as_they_are() {
     let one = [&NUMBERS[..5], &[0]].concat();
     let mut logs = vec![written(OBSERVE, &one), written(OBSERVE_TWO, &of_two(55_000, 55_000))];
-    logs.extend((0..7).map(|index| written(OBSERVE_TWO, &with(index, NUMBERS[index] + 1))));
+    logs.extend(written_apart(OBSERVE_TWO, NUMBERS, 7));
     logs.push(written(OBSERVE_TWO, &of_two(54_000, 55_000)));
     logs.push(written(OBSERVE_TWO, &NUMBERS));
     each_apart(&logs);
@@ -324,15 +293,7 @@ fn of_generated_logs() {
     for seed in 0..times(2_000) {
         let logs = [spelled(&plausible_events(seed + 12_000_000, 30)), any_log(seed, 20)];
         for log in logs.into_iter().chain([damaged_log(seed + 12_000_000, 30)]) {
-            for event in reference::generate::events_of(&log) {
-                if let Event::ObserveTwo(_) = event {
-                    let image = any_image(&mut rng);
-                    let numbers = numbers_of(&event);
-                    let left = given(&image, OBSERVE_TWO, &numbers);
-                    assert_eq!(left.1, replayed(&image, OBSERVE_TWO, &numbers));
-                    tally.count(left.0);
-                }
-            }
+            alone(&mut rng, &log, OBSERVE_TWO, &mut tally);
         }
     }
     tally.met_exactly([0, 5, 6, 7]);

@@ -5,25 +5,29 @@
 mod example;
 mod left;
 mod lines;
+mod numbers;
+mod power_on;
 mod seen;
 
 use std::collections::BTreeSet;
 
 use reference::generate::{
-    any_edition, any_event, any_state, plausible_events, spelled, spoiled_state, times, Rng,
+    any_edition, any_event, any_state, plausible_events, spoiled_state, times, Rng,
 };
 use reference::state::phase;
 use reference::{
-    number, partlog, record, Band, EditionProfile, Event, Model, Profile, Reading, Refusal, Run,
-    State, Step, TsBand,
+    record, Band, EditionProfile, Event, Model, Profile, Refusal, Run, State, Step, TsBand,
 };
 
 use example::PROFILE;
 use left::on;
-use lines::{held, lines};
-use seen::{after, band_of, give, sample, two, write, THRESHOLDS};
+use lines::{each_parts, run_alike};
+use numbers::{of_numbers, Range};
+use power_on::{each_has_its_range, CEILING, OHMS, STAMP, TIME};
+use seen::{after, back, band_of, coded, give, sample, two, write, THRESHOLDS};
 use TsBand::{Cold, Cool, Hot, Normal, Warm};
 
+const KIND: u8 = 11;
 /// A TS that is normal, whatever the thresholds and whatever is held.
 const MIDDLE: u32 = 55_000;
 const BACK: u32 = 1_000;
@@ -38,21 +42,6 @@ fn edition(edition: u32) -> Event {
 
 fn powered(by: u32) -> State {
     on(&Model::Off.step(&edition(by)))
-}
-
-/// A TS so far back from a threshold: below TH1 and TH2, above TH3 and TH5.
-fn back(threshold: usize, at: u32, by: u32) -> u32 {
-    if threshold < 2 {
-        at - by
-    } else {
-        at + by
-    }
-}
-
-/// 0x18 with one of its codes, the others as after a power-on.
-fn coded(threshold: usize, code: u32) -> Event {
-    let shift = 2 * threshold;
-    write(0x18, 0x95 & !(3 << shift) | code << shift)
 }
 
 /// The second edition after observations of both thermistors, of the first
@@ -469,34 +458,16 @@ fn kind_11_beside_kind_1() {
 
 #[test]
 fn runs_are_those_of_kind_1() {
-    for seed in 0..times(500) {
-        let events = plausible_events(seed, 60);
-        let said = |event: &Event| match event {
-            Event::PowerOn(profile) => Event::PowerOnEdition(profile.of_first()),
-            _ => *event,
-        };
-        let otherwise: Vec<Event> = events.iter().map(said).collect();
-        let (log, other) = (spelled(&events), spelled(&otherwise));
-        assert_eq!(lines(&log), lines(&other));
-        assert_eq!(held(&log), held(&other));
-    }
+    run_alike(|event| match event {
+        Event::PowerOn(profile) => Event::PowerOnEdition(profile.of_first()),
+        _ => *event,
+    });
 }
 
 // ---- The record
 
 /// Kind 11's numbers, each in its range.
 const NUMBERS: [u32; 11] = [2, 5, 4, 0, 0, 4_500, 3_600, 7_200, 36_000, 160, 2];
-
-/// The event that kind 11's numbers spell, in the log's order.
-fn of_numbers(numbers: &[u32]) -> Event {
-    let mut bytes = vec![11];
-    numbers.iter().for_each(|value| number::append(*value, &mut bytes));
-    let Reading::Record { event, next } = record::read(&bytes, 0) else {
-        panic!("{numbers:?} can't be read");
-    };
-    assert_eq!((next, record::encode(&event)), (bytes.len(), bytes));
-    event
-}
 
 /// "an edition number 1 or 2 after the watchdog period"
 #[test]
@@ -506,8 +477,8 @@ fn its_spelling() {
     let profile = Profile { watchdog: 160, ..PROFILE };
     let event = Event::PowerOnEdition(EditionProfile { profile, edition: 2 });
     assert_eq!(record::encode(&event), bytes);
-    assert_eq!((event, event.kind()), (of_numbers(&NUMBERS), 11));
-    assert_eq!(record::encode(&of_numbers(&[u32::MAX; 11])).len(), 56);
+    assert_eq!((event, event.kind()), (of_numbers(KIND, &NUMBERS), KIND));
+    assert_eq!(record::encode(&of_numbers(KIND, &[u32::MAX; 11])).len(), 56);
     let state = on(&Model::Off.step(&event));
     assert_eq!((state.period, state.edition), (160, 2));
 }
@@ -515,52 +486,17 @@ fn its_spelling() {
 /// Logs are compared as they are, though the models are equal.
 #[test]
 fn power_ons_that_are_said_otherwise_part() {
-    let events = [Event::PowerOn(PROFILE), edition(1), edition(2)];
-    let logs = events.map(|event| spelled(&[Event::Service, event]));
-    for (at, first) in logs.iter().enumerate() {
-        assert_eq!(held(first), held(&logs[0]));
-        for second in &logs[at + 1..] {
-            assert_eq!(partlog(first, second), "refused 14 2 1\n");
-        }
-    }
+    each_parts(Event::Service, &[Event::PowerOn(PROFILE), edition(1), edition(2)]);
 }
 
-/// Values of each number that are taken, and such as are 5.
-const RANGES: [(&[u32], &[u32]); 11] = [
-    (&[0, 7], &[8, u32::MAX]),
-    (&[0, 7], &[8, u32::MAX]),
-    (&[0, 7], &[8, u32::MAX]),
-    (&[0, 33_000], &[33_001, u32::MAX]),
-    (&[0, u32::MAX], &[]),
-    (&[4_350, 4_714], &[0, 4_349, 4_715, u32::MAX]),
-    (&[0, 172_800], &[172_801, u32::MAX]),
-    (&[0, 172_800], &[172_801, u32::MAX]),
-    (&[0, 172_800], &[172_801, u32::MAX]),
-    (&[0, 172_800], &[172_801, u32::MAX]),
-    (&[1, 2], &[0, 3, 4, 160, 257, 258, 65_537, 1 << 31 | 2, u32::MAX]),
-];
+/// A pin's code.
+const CODE: Range = (&[0, 7], &[8, u32::MAX]);
+const EDITION: Range = (&[1, 2], &[0, 3, 4, 160, 257, 258, 65_537, 1 << 31 | 2, u32::MAX]);
 
-/// A power-on is refused with 5 alone, before another and after it.
 #[test]
 fn each_number_has_its_range() {
-    let on = Model::Off.step(&of_numbers(&NUMBERS)).model;
-    let with = |index: usize, value: u32| {
-        let mut numbers = NUMBERS;
-        numbers[index] = value;
-        of_numbers(&numbers)
-    };
-    for (index, (taken, refused)) in RANGES.into_iter().enumerate() {
-        for model in [Model::Off, on] {
-            for value in taken {
-                assert_eq!(model.step(&with(index, *value)).refusal, None, "{index} {value}");
-            }
-            for value in refused {
-                let step = model.step_at(&with(index, *value), 7);
-                assert_eq!((step.refusal, step.place), (Some(Refusal::OutOfRange), 7));
-                assert_eq!(step.model, model);
-            }
-        }
-    }
+    let ranges = [CODE, CODE, CODE, OHMS, STAMP, CEILING, TIME, TIME, TIME, TIME, EDITION];
+    each_has_its_range(KIND, NUMBERS, &ranges);
 }
 
 /// The held edition, and any two bands beside either.

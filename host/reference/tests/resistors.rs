@@ -3,18 +3,22 @@
 //! of it.
 
 mod lines;
+mod numbers;
+mod power_on;
 
 use std::collections::BTreeSet;
 
 use reference::generate::{
-    any_event, any_resistors, any_state, plausible_events, spelled, spoiled_state, times, Rng,
+    any_event, any_resistors, any_state, plausible_events, spoiled_state, times, Rng,
 };
 use reference::pins::{code_of, matches, RESISTORS};
-use reference::{
-    number, partlog, record, Event, Model, Profile, Reading, Refusal, Resistors, Step,
-};
+use reference::{Event, Model, Profile, Refusal, Resistors, Step};
 
-use lines::{held, lines};
+use lines::{each_parts, run_alike};
+use numbers::{of_numbers, with, Range};
+use power_on::{each_has_its_range, CEILING, OHMS, STAMP, TIME};
+
+const KIND: u8 = 9;
 
 /// The spans of codes 1 to 7, worked out by hand from "within 2%".
 const SPANS: [(u32, u32); 7] = [
@@ -119,82 +123,28 @@ fn it_acts_as_kind_1_with_the_codes() {
 
 #[test]
 fn runs_are_those_of_kind_1() {
-    for seed in 0..times(500) {
-        let events = plausible_events(seed, 60);
-        let by_codes: Vec<Event> = events
-            .iter()
-            .map(|event| match event {
-                Event::PowerOnResistors(resistors) if in_range(resistors) => by_codes(resistors),
-                _ => *event,
-            })
-            .collect();
-        let (log, other) = (spelled(&events), spelled(&by_codes));
-        assert_eq!(lines(&log), lines(&other));
-        assert_eq!(held(&log), held(&other));
-    }
+    run_alike(|event| match event {
+        Event::PowerOnResistors(resistors) if in_range(resistors) => by_codes(resistors),
+        _ => *event,
+    });
 }
 
 /// Logs are compared as they are, though the models are equal.
 #[test]
 fn power_ons_that_are_said_otherwise_part() {
-    let mut others = NUMBERS;
-    others[0] += 1;
-    let [one, other] = [NUMBERS, others].map(|numbers| of_numbers(&numbers));
+    let others = with(NUMBERS, 0, NUMBERS[0] + 1);
+    let [one, other] = [NUMBERS, others].map(|numbers| of_numbers(KIND, &numbers));
     let by_codes = Event::PowerOn(one.powered().expect("a power-on").profile);
-    let logs = [one, other, by_codes].map(|event| spelled(&[Event::Service, event]));
-    for (at, first) in logs.iter().enumerate() {
-        assert_eq!(held(first), held(&logs[0]));
-        for second in &logs[at + 1..] {
-            assert_eq!(partlog(first, second), "refused 14 2 1\n");
-        }
-    }
+    each_parts(Event::Service, &[one, other, by_codes]);
 }
 
-/// The event that kind 9's numbers spell, in the log's order.
-fn of_numbers(numbers: &[u32]) -> Event {
-    let mut bytes = vec![9];
-    numbers.iter().for_each(|value| number::append(*value, &mut bytes));
-    let Reading::Record { event, next } = record::read(&bytes, 0) else {
-        panic!("{numbers:?} can't be read");
-    };
-    assert_eq!((next, record::encode(&event)), (bytes.len(), bytes));
-    event
-}
-
-/// Values of each number that are taken, and such as are 5.
-const RANGES: [(&[u32], &[u32]); 10] = [
-    (&[0, 1, 33_001, MOST], &[MOST + 1, u32::MAX]),
-    (&[0, 1, 33_001, MOST], &[MOST + 1, u32::MAX]),
-    (&[0, 1, 33_001, MOST], &[MOST + 1, u32::MAX]),
-    (&[0, 33_000], &[33_001, MOST, u32::MAX]),
-    (&[0, u32::MAX], &[]),
-    (&[4_350, 4_714], &[0, 4_349, 4_715, u32::MAX]),
-    (&[0, 172_800], &[172_801, u32::MAX]),
-    (&[0, 172_800], &[172_801, u32::MAX]),
-    (&[0, 172_800], &[172_801, u32::MAX]),
-    (&[0, 172_800], &[172_801, u32::MAX]),
-];
+/// A pin's ohms.
+const PIN: Range = (&[0, 1, 33_001, MOST], &[MOST + 1, u32::MAX]);
 
 #[test]
 fn each_number_has_its_range() {
-    let on = Model::Off.step(&of_numbers(&NUMBERS)).model;
-    let with = |index: usize, value: u32| {
-        let mut numbers = NUMBERS;
-        numbers[index] = value;
-        of_numbers(&numbers)
-    };
-    for (index, (taken, refused)) in RANGES.into_iter().enumerate() {
-        for model in [Model::Off, on] {
-            for value in taken {
-                assert_eq!(model.step(&with(index, *value)).refusal, None, "{index} {value}");
-            }
-            for value in refused {
-                let step = model.step_at(&with(index, *value), 7);
-                assert_eq!((step.refusal, step.place), (Some(Refusal::OutOfRange), 7));
-                assert_eq!(step.model, model);
-            }
-        }
-    }
+    let ranges = [PIN, PIN, PIN, OHMS, STAMP, CEILING, TIME, TIME, TIME, TIME];
+    each_has_its_range(KIND, NUMBERS, &ranges);
 }
 
 /// "any kind but a power-on's, before a power-on" is 6; a refused power-on is
@@ -202,9 +152,9 @@ fn each_number_has_its_range() {
 #[test]
 fn it_is_a_power_on() {
     let mut rng = Rng::new(32);
-    let refused = of_numbers(&[[MOST + 1].as_slice(), &NUMBERS[1..]].concat());
+    let refused = of_numbers(KIND, &with(NUMBERS, 0, MOST + 1));
     let off = Model::Off.step(&refused).model;
-    let on = Model::Off.step(&of_numbers(&NUMBERS)).model;
+    let on = Model::Off.step(&of_numbers(KIND, &NUMBERS)).model;
     for _ in 0..times(20_000) {
         let event = any_event(&mut rng);
         let not_powered = Some(Refusal::NotPowered);

@@ -4,24 +4,26 @@
 mod example;
 mod left;
 mod lines;
+mod numbers;
 mod seen;
 
 use std::collections::BTreeSet;
 
-use reference::generate::{
-    any_state, any_two_sample, plausible_events, spelled, spoiled_state, times, Rng,
-};
+use reference::generate::{any_state, any_two_sample, plausible_events, spoiled_state, times, Rng};
 use reference::settle::base_voltage;
 use reference::state::phase;
 use reference::{
-    band, number, partlog, read_register, record, report, stat, Band, Event, Model, Reading,
-    Refusal, Report, Sample, Stat, State, Step, TsBand, TwoSample,
+    band, read_register, record, report, stat, Band, Event, Model, Reading, Refusal, Report,
+    Sample, Stat, State, Step, TsBand, TwoSample,
 };
 
 use example::PROFILE;
 use left::on;
-use lines::{held, lines};
-use seen::{after, band_of, give, sample, two, write, THRESHOLDS};
+use lines::{each_parts, run_alike};
+use numbers::{each_refused, each_taken, of_numbers, with, Range};
+use seen::{after, back, band_of, coded, give, sample, two, write, THRESHOLDS};
+
+const KIND: u8 = 10;
 
 /// The least and the most TS of each band by the registers' resets: TH1 75,320,
 /// TH2 68,250, TH3 44,750, TH5 34,375.
@@ -104,17 +106,17 @@ fn the_switches_of_both() {
 /// normal: "the one that isn't normal decides".
 #[test]
 fn each_threshold_by_either() {
-    let bands = [(0, Band::Cold), (2, Band::Cool), (4, Band::Warm), (6, Band::Hot)];
-    for ((shift, wanted), values) in bands.into_iter().zip(THRESHOLDS) {
+    let bands = [Band::Cold, Band::Cool, Band::Warm, Band::Hot];
+    for (index, (wanted, values)) in bands.into_iter().zip(THRESHOLDS).enumerate() {
         for (code, threshold) in (0..).zip(values) {
-            let byte = 0x95 & !(3 << shift) | code << shift;
-            let start = after(&powered(), &write(0x18, byte));
-            let outside = if shift < 4 { threshold - 1 } else { threshold + 1 };
+            let start = after(&powered(), &coded(index, code));
+            let got = |ts, other| band_of(&after(&start, &two(ts, other)));
+            let outside = back(index, threshold, 1);
             for (ts, other) in [(threshold, 55_000), (55_000, threshold)] {
-                assert_eq!(band_of(&after(&start, &two(ts, other))), wanted, "{byte:#04X}");
+                assert_eq!(got(ts, other), wanted, "{threshold}");
             }
             for (ts, other) in [(outside, 55_000), (55_000, outside)] {
-                assert_ne!(band_of(&after(&start, &two(ts, other))), wanted, "{byte:#04X}");
+                assert_ne!(got(ts, other), wanted, "{threshold}");
             }
         }
     }
@@ -341,34 +343,16 @@ fn as_kind_5_with_the_one_that_decides() {
 
 #[test]
 fn runs_are_those_of_kind_5() {
-    for seed in 0..times(500) {
-        let events = plausible_events(seed, 60);
-        let said = |event: &Event| match event {
-            Event::Observe(sample) => Event::ObserveTwo(sample.of_two()),
-            _ => *event,
-        };
-        let otherwise: Vec<Event> = events.iter().map(said).collect();
-        let (log, other) = (spelled(&events), spelled(&otherwise));
-        assert_eq!(lines(&log), lines(&other));
-        assert_eq!(held(&log), held(&other));
-    }
+    run_alike(|event| match event {
+        Event::Observe(sample) => Event::ObserveTwo(sample.of_two()),
+        _ => *event,
+    });
 }
 
 // ---- The record
 
 /// Kind 10's numbers, each in its range.
 const NUMBERS: [u32; 7] = [1_000, 12_000, 7_600, 0, 55_000, 44_000, 4];
-
-/// The event that kind 10's numbers spell, in the log's order.
-fn of_numbers(numbers: &[u32]) -> Event {
-    let mut bytes = vec![10];
-    numbers.iter().for_each(|value| number::append(*value, &mut bytes));
-    let Reading::Record { event, next } = record::read(&bytes, 0) else {
-        panic!("{numbers:?} can't be read");
-    };
-    assert_eq!((next, record::encode(&event)), (bytes.len(), bytes));
-    event
-}
 
 /// "the second value right after the first", and so before the bits.
 #[test]
@@ -379,33 +363,26 @@ fn its_spelling() {
     assert_eq!(record::encode(&event), bytes);
     assert_eq!(record::read(&bytes, 0), Reading::Record { event, next: bytes.len() });
     assert_eq!((event.kind(), record::numbers_of(&event)[5..].to_vec()), (10, vec![44_000, 4]));
-    let longest = record::encode(&of_numbers(&[u32::MAX; 7]));
+    let longest = record::encode(&of_numbers(KIND, &[u32::MAX; 7]));
     assert_eq!(longest.len(), 36);
-    let state = after(&powered(), &of_numbers(&NUMBERS));
+    let state = after(&powered(), &of_numbers(KIND, &NUMBERS));
     assert_eq!((state.sample.ts, state.second, state.sample.bits), (55_000, 44_000, 4));
 }
 
 /// Logs are compared as they are, though the models are equal.
 #[test]
 fn observations_that_are_said_otherwise_part() {
-    let start = spelled(&[Event::PowerOn(PROFILE)]);
     let sample = sample(55_000);
     let events = [
         Event::Observe(sample),
         Event::ObserveTwo(sample.of_two()),
         Event::ObserveTwo(TwoSample { sample, second: 55_001 }),
     ];
-    let logs = events.map(|event| [start.clone(), spelled(&[event])].concat());
-    for (at, first) in logs.iter().enumerate() {
-        assert_eq!(held(first), held(&logs[0]));
-        for second in &logs[at + 1..] {
-            assert_eq!(partlog(first, second), format!("refused 14 2 {}\n", start.len()));
-        }
-    }
+    each_parts(Event::PowerOn(PROFILE), &events);
 }
 
 /// Values of each number that are taken, and such as are 5; IBAT as logged.
-const RANGES: [(&[u32], &[u32]); 7] = [
+const RANGES: [Range; 7] = [
     (&[0, 3_600_000], &[]),
     (&[0, 45_000], &[45_001, u32::MAX]),
     (&[0, 45_000], &[45_001, u32::MAX]),
@@ -415,36 +392,18 @@ const RANGES: [(&[u32], &[u32]); 7] = [
     (&[0, 63], &[64, 100_000, u32::MAX]),
 ];
 
-fn with(index: usize, value: u32) -> [u32; 7] {
-    let mut numbers = NUMBERS;
-    numbers[index] = value;
-    numbers
-}
-
 /// "6, 5, 7 for observations": what is out of its range is 5 though the stamp
 /// is too far ahead, and 6 before a power-on.
 #[test]
 fn each_number_has_its_range() {
     let model = Model::On(powered());
-    for (index, (taken, refused)) in RANGES.into_iter().enumerate() {
-        for value in taken {
-            let event = of_numbers(&with(index, *value));
-            assert_eq!(model.step(&event).refusal, None, "{index} {value}");
-        }
-        for value in refused {
-            let mut numbers = with(index, *value);
-            for stamp in [1_000, 3_600_001] {
-                numbers[0] = stamp;
-                let step = model.step_at(&of_numbers(&numbers), 7);
-                assert_eq!((step.refusal, step.place), (Some(Refusal::OutOfRange), 7));
-                assert_eq!(step.model, model);
-            }
-            let off = Model::Off.step(&of_numbers(&numbers));
-            assert_eq!(off.refusal, Some(Refusal::NotPowered));
-        }
+    each_taken(&model, KIND, NUMBERS, &RANGES);
+    let ahead = with(NUMBERS, 0, 3_600_001);
+    for numbers in [NUMBERS, ahead] {
+        each_refused(&model, KIND, numbers, &RANGES, Refusal::OutOfRange);
+        each_refused(&Model::Off, KIND, numbers, &RANGES, Refusal::NotPowered);
     }
-    let late = model.step(&of_numbers(&with(0, 3_600_001)));
-    assert_eq!(late.refusal, Some(Refusal::StampAhead));
+    assert_eq!(model.step(&of_numbers(KIND, &ahead)).refusal, Some(Refusal::StampAhead));
 }
 
 /// A held second TS is judged as a held first one is.

@@ -12,6 +12,21 @@ pub const THRESHOLDS: [[u32; 4]; 4] = [
     [41_200, 37_700, 34_375, 31_250],
 ];
 
+/// A TS so far back from a threshold: below TH1 and TH2, above TH3 and TH5.
+pub fn back(threshold: usize, at: u32, by: u32) -> u32 {
+    if threshold < 2 {
+        at - by
+    } else {
+        at + by
+    }
+}
+
+/// 0x18 with one of its codes, the others as after a power-on.
+pub fn coded(threshold: usize, code: u32) -> Event {
+    let shift = 2 * threshold;
+    write(0x18, 0x95 & !(3 << shift) | code << shift)
+}
+
 /// What an accepted event does.
 pub fn give(state: &State, event: &Event) -> Step {
     let step = Model::On(*state).step(event);
