@@ -17,39 +17,16 @@ use Rattle.settle_bands.specs.Holding.{holdsBands, backBy, endedBy, atOn
 use Rattle.settle_bands.specs.Held.{Back, Ended, Next, Holds, HoldsAsSaid, ByEdition, HeldOnce}
 use Rattle.settle_bands.specs.declared.thresholds.Marks.{Marks}
 
--- what is chosen once is chosen again, by whatever test of the band
-again : (stays : TsBand → Bool) (held fresh : TsBand) (t : Bool) → stays held ≡ t → pick (stays (pick t held fresh)) (pick t held fresh) fresh ≡ pick t held fresh
-again stays held fresh true e = rw e
-again stays held fresh false e = same (stays fresh)
-  where
-    same : (t : Bool) → pick t fresh fresh ≡ fresh
-    same true = refl
-    same false = refl
-
-next-again : (holds : Bool) (m : Marks) (held : TsBand) (ts : ℕ) → nextBy holds m (nextBy holds m held ts) ts ≡ nextBy holds m held ts
-unfolding nextBy
-next-again holds m held ts = again (λ (b : TsBand). holds && staysBy m b ts) held (bandBy m ts) (holds && staysBy m held ts) refl
-
-abbrev pairBy : Bool → Marks → Sample → Bands → Bands
-pairBy holds m x held = record { first = nextBy holds m (held .first) (x .ts); second = nextBy holds m (held .second) (x .secondts) }
-
-pair-again : (holds : Bool) (m : Marks) (x : Sample) (held : Bands) → pairBy holds m x (pairBy holds m x held) ≡ pairBy holds m x held
-pair-again holds m x held = λ i. record { first = next-again holds m (held .first) (x .ts) i; second = next-again holds m (held .second) (x .secondts) i }
-
-pub held-once : HeldOnce
-unfolding bandsOf nextOf heldBands freshBands
-held-once = record {
-  ours = λ p g x held. pair-again (holdsBands p) (marksOf p g) x held;
-  first = λ p g x held. refl;
-  second = λ p g x held. pair-again true (marksOf p g) x held;
-}
-
-pub by-edition : ByEdition
-unfolding bandsOf nextOf nextBy heldBands freshBands bandOf
-by-edition = record { first = λ p g x held n. rw (ne-eqb (p .edition) 2 n); second = λ p g x held two. rw (ap (λ n. eqb n 2) two) }
-
 -- ---- what each test means
 module _ (p : Profile) (g : Registers) where
+  back-tests : (held : TsBand) (ts : ℕ) → Back p g held ts → backBy (marksOf p g) held ts ≡ true
+  unfolding marksOf
+  back-tests Normal ts h = refl
+  back-tests Cold ts h = le-leb _ _ h
+  back-tests Hot ts h = le-leb _ _ h
+  back-tests Cool ts h = le-leb _ _ h
+  back-tests Warm ts h = le-leb _ _ h
+
   back-means : (held : TsBand) (ts : ℕ) → backBy (marksOf p g) held ts ≡ true → Back p g held ts
   unfolding marksOf
   back-means Normal ts t = tt
@@ -58,13 +35,22 @@ module _ (p : Profile) (g : Registers) where
   back-means Cool ts t = leb-true _ _ t
   back-means Warm ts t = leb-true _ _ t
 
-  back-tests : (held : TsBand) (ts : ℕ) → Back p g held ts → backBy (marksOf p g) held ts ≡ true
+  either-ends : (off jeita : Bool) → (off ≡ true) ⊎ (jeita ≡ false) → (off || not jeita) ≡ true
+  either-ends off jeita (inl t) = rw t
+  either-ends true jeita (inr f) = refl
+  either-ends false jeita (inr f) = rw f
+
+  always : (off : Bool) → (off || true) ≡ true
+  always true = refl
+  always false = refl
+
+  ended-tests : (held : TsBand) → Ended g held → endedBy (marksOf p g) held ≡ true
   unfolding marksOf
-  back-tests Normal ts h = refl
-  back-tests Cold ts h = le-leb _ _ h
-  back-tests Hot ts h = le-leb _ _ h
-  back-tests Cool ts h = le-leb _ _ h
-  back-tests Warm ts h = le-leb _ _ h
+  ended-tests Cold h = rw h
+  ended-tests Hot h = rw h
+  ended-tests Cool h = either-ends (tsOff g) (jeitaOn g) h
+  ended-tests Warm h = either-ends (tsOff g) (jeitaOn g) h
+  ended-tests Normal h = simp always
 
   by-cool : (off jeita : Bool) → (off || not jeita) ≡ true → (off ≡ true) ⊎ (jeita ≡ false)
   by-cool true jeita t = inl refl
@@ -82,23 +68,6 @@ module _ (p : Profile) (g : Registers) where
   ended-means Hot t = by-cold (tsOff g) t
   ended-means Cool t = by-cool (tsOff g) (jeitaOn g) t
   ended-means Warm t = by-cool (tsOff g) (jeitaOn g) t
-
-  either-ends : (off jeita : Bool) → (off ≡ true) ⊎ (jeita ≡ false) → (off || not jeita) ≡ true
-  either-ends off jeita (inl t) = rw t
-  either-ends true jeita (inr f) = refl
-  either-ends false jeita (inr f) = rw f
-
-  always : (off : Bool) → (off || true) ≡ true
-  always true = refl
-  always false = refl
-
-  ended-tests : (held : TsBand) → Ended g held → endedBy (marksOf p g) held ≡ true
-  unfolding marksOf
-  ended-tests Normal h = always (tsOff g)
-  ended-tests Cold h = rw h
-  ended-tests Hot h = rw h
-  ended-tests Cool h = either-ends (tsOff g) (jeitaOn g) h
-  ended-tests Warm h = either-ends (tsOff g) (jeitaOn g) h
 
 once-means : (fresh : TsBand) → atOnce fresh ≡ true → (fresh ≡ Cold) ⊎ (fresh ≡ Hot)
 once-means Normal t = absurd (false≢true t)
@@ -194,3 +163,35 @@ module _ (next other : Next) (k : Holds next) (l : Holds other) (p : Profile) (g
 
 pub holds-as-said : HoldsAsSaid
 holds-as-said = record { ours = our-holds; only = λ next k. same next nextOf k our-holds }
+
+pub by-edition : ByEdition
+unfolding bandsOf nextOf nextBy heldBands freshBands bandOf
+by-edition = record { first = λ p g x held n. rw (ne-eqb (p .edition) 2 n); second = λ p g x held two. rw (ap (λ n. eqb n 2) two) }
+
+-- ---- judged again
+-- what is chosen once is chosen again, by whatever test of the band
+again : (stays : TsBand → Bool) (held fresh : TsBand) (t : Bool) → stays held ≡ t → pick (stays (pick t held fresh)) (pick t held fresh) fresh ≡ pick t held fresh
+again stays held fresh true e = rw e
+again stays held fresh false e = same (stays fresh)
+  where
+    same : (t : Bool) → pick t fresh fresh ≡ fresh
+    same true = refl
+    same false = refl
+
+next-again : (holds : Bool) (m : Marks) (held : TsBand) (ts : ℕ) → nextBy holds m (nextBy holds m held ts) ts ≡ nextBy holds m held ts
+unfolding nextBy
+next-again holds m held ts = again (λ (b : TsBand). holds && staysBy m b ts) held (bandBy m ts) (holds && staysBy m held ts) refl
+
+abbrev pairBy : Bool → Marks → Sample → Bands → Bands
+pairBy holds m x held = record { first = nextBy holds m (held .first) (x .ts); second = nextBy holds m (held .second) (x .secondts) }
+
+pair-again : (holds : Bool) (m : Marks) (x : Sample) (held : Bands) → pairBy holds m x (pairBy holds m x held) ≡ pairBy holds m x held
+pair-again holds m x held = λ i. record { first = next-again holds m (held .first) (x .ts) i; second = next-again holds m (held .second) (x .secondts) i }
+
+pub held-once : HeldOnce
+unfolding bandsOf nextOf heldBands freshBands
+held-once = record {
+  ours = λ p g x held. pair-again (holdsBands p) (marksOf p g) x held;
+  first = λ p g x held. refl;
+  second = λ p g x held. pair-again true (marksOf p g) x held;
+}
