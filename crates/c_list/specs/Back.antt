@@ -4,7 +4,7 @@ use mathlib.Core.Bool.{Bool}
 use mathlib.Core.List.{List, [], _∷_}
 use lib.ListN.{getD}
 use lib.Dec.{eqb}
-use Rattle.base.specs.Pick.{pick}
+use Rattle.base.specs.Pick.{pick, whose}
 use Rattle.base.specs.Volts.{packOf}
 use Rattle.state_parts.specs.Edges.{allFlags}
 use Rattle.state_parts.specs.Numbers.{phaseNumber, tsBandNumber}
@@ -83,11 +83,6 @@ abbrev pub sampleFrom : List ℕ → ℕ → Sample
 sampleFrom all at =
     let n = number all at in
     record { stamp = n 0; input = n 1; pack = n 2; ibat = signedOf (n 3); ts = n 4; secondts = n 5; bits = n 6 }
-
--- the first of some that has a number; else the other
-abbrev pub whose : {A : Type 0} → (A → ℕ) → ℕ → List A → A → A
-whose f n [] other = other
-whose f n (a ∷ rest) other = pick (eqb n (f a)) a (whose f n rest other)
 
 abbrev pub phaseFrom : ℕ → Phase
 phaseFrom n = whose phaseNumber n (Idle ∷ Trickle ∷ Precharge ∷ Fast ∷ Taper ∷ Done ∷ Suspended ∷ []) Fault

@@ -1,8 +1,10 @@
 -- 02, R-7: "New packs have one at each end. The sample gets a second TS value, judged by the same registers." What two thermistors' bands come to.
+use Prim.Native.Nat.{ℕ}
 use mathlib.Core.Bool.{Bool, _&&_, _||_}
+use mathlib.Core.List.{[], _∷_}
 use lib.Dec.{eqb}
-use Rattle.base.specs.Pick.{pick}
-use Rattle.state_parts.specs.Numbers.{tsBandNumber}
+use Rattle.base.specs.Pick.{pick, whose}
+use Rattle.state_parts.specs.Numbers.{tsBandNumber, bandNumber}
 use Rattle.state_parts.specs.declared.band.Band.{Band}
 use Rattle.state_parts.specs.declared.band.Band.the-variants.{Normal, Cold, Cool, Warm, Hot, Mixed}
 use Rattle.state_parts.specs.declared.band.Bands.{Bands}
@@ -26,3 +28,7 @@ joinedOf a b = firstJoined (either ts.Cold a b) (either ts.Hot a b) (either ts.C
 -- of what is held
 abbrev pub packBand : Bands → Band
 packBand b = joinedOf (b .first) (b .second)
+
+-- the pack's band of a number
+abbrev pub packFrom : ℕ → Band
+packFrom n = whose bandNumber n (Normal ∷ Cold ∷ Hot ∷ Cool ∷ Warm ∷ []) Mixed

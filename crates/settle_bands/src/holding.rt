@@ -69,10 +69,14 @@ fn next(holds: bool, m: Marks, held: TsBand, ts: u32) -> TsBand
     ensures { λ r. ⌜ r ≡ nextBy holds m held ts ⌝ }
 {
     let fresh = thresholds::band_at(m, ts);
-    let once = at_once(fresh);
-    let ended = is_ended(m, held);
-    let back = is_back(m, held, ts);
-    either(holds & (!once & !ended & !back), held, fresh)
+    if holds {
+        let once = at_once(fresh);
+        let ended = is_ended(m, held);
+        let back = is_back(m, held, ts);
+        either(!once & !ended & !back, held, fresh)
+    } else {
+        fresh
+    }
 }
 
 // The next band of each thermistor.

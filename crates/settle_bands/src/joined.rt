@@ -1,12 +1,14 @@
 // The pack's band: what the bands of its two thermistors come to.
 ghost use mathlib.Core.Path.{_≡_};
-ghost use Rattle.settle_bands.specs.Joined.{firstJoined, joinedOf, packBand};
+ghost use Rattle.state_parts.specs.Numbers.{bandNumber};
+ghost use Rattle.settle_bands.specs.Joined.{firstJoined, packBand, packFrom};
 use state_parts::band;
 use state_parts::band::Band;
 use state_parts::band::Bands;
-use state_parts::band::TsBand;
 
-// The numbers of the four bands that aren't normal.
+// The numbers of the bands.
+const NORMAL: u32 = 0;
+
 pub(crate) const COLD: u32 = 1;
 
 pub(crate) const HOT: u32 = 2;
@@ -15,43 +17,60 @@ const COOL: u32 = 3;
 
 const WARM: u32 = 4;
 
-// The judged order, by what either thermistor is.
-fn first_joined(cold: bool, hot: bool, mixed: bool, cool: bool, warm: bool) -> Band
-    ensures { λ r. ⌜ r ≡ firstJoined cold hot mixed cool warm ⌝ }
+const MIXED: u32 = 7;
+
+// The number of the first that holds, in the judged order.
+fn first_number(cold: bool, hot: bool, mixed: bool, cool: bool, warm: bool) -> u32
+    ensures { λ r. ⌜ r ≡ bandNumber (firstJoined cold hot mixed cool warm) ⌝ }
 {
     if cold {
-        Band::Cold
+        COLD
     } else if hot {
-        Band::Hot
+        HOT
     } else if mixed {
-        Band::Mixed
+        MIXED
     } else if cool {
-        Band::Cool
+        COOL
     } else if warm {
-        Band::Warm
+        WARM
     } else {
-        Band::Normal
+        NORMAL
     }
 }
 
-// What two thermistors' bands come to.
-pub fn joined(first: TsBand, second: TsBand) -> Band
-    ensures { λ r. ⌜ r ≡ joinedOf first second ⌝ }
+// The number of the pack's band, by what either of its thermistors is in.
+pub fn pack_number(bands: Bands) -> u32
+    ensures { λ r. ⌜ r ≡ bandNumber (packBand bands) ⌝ }
 {
+    let first = bands.first;
+    let second = bands.second;
     let a = band::ts_number(first);
     let b = band::ts_number(second);
     let cold = (a == COLD) | (b == COLD);
     let hot = (a == HOT) | (b == HOT);
     let cool = (a == COOL) | (b == COOL);
     let warm = (a == WARM) | (b == WARM);
-    first_joined(cold, hot, cool & warm, cool, warm)
+    first_number(cold, hot, cool & warm, cool, warm)
 }
 
-// The pack's band, by what each of its thermistors is in.
+// The band of a number.
+fn band_of(n: u32) -> Band
+    ensures { λ r. ⌜ r ≡ packFrom n ⌝ }
+{
+    match n {
+        NORMAL => Band::Normal,
+        COLD => Band::Cold,
+        HOT => Band::Hot,
+        COOL => Band::Cool,
+        WARM => Band::Warm,
+        _ => Band::Mixed,
+    }
+}
+
+// The pack's band.
 pub fn pack_band(bands: Bands) -> Band
     ensures { λ r. ⌜ r ≡ packBand bands ⌝ }
 {
-    let first = bands.first;
-    let second = bands.second;
-    joined(first, second)
+    let number = pack_number(bands);
+    band_of(number)
 }

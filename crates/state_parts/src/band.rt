@@ -2,13 +2,13 @@
 ghost use mathlib.Core.Path.{_≡_};
 ghost use Rattle.state_parts.specs.Numbers.{tsBandNumber, bandNumber};
 
-// What one TS value is in.
+// What one TS value is in, in the order of the bands' numbers.
 pub enum TsBand {
     Normal,
     Cold,
+    Hot,
     Cool,
     Warm,
-    Hot,
 }
 
 // What each of a pack's two thermistors is in.
@@ -21,9 +21,9 @@ pub struct Bands {
 pub enum Band {
     Normal,
     Cold,
+    Hot,
     Cool,
     Warm,
-    Hot,
     Mixed,
 }
 
@@ -34,9 +34,9 @@ pub fn ts_number(b: TsBand) -> u32
     match b {
         TsBand::Normal => 0,
         TsBand::Cold => 1,
+        TsBand::Hot => 2,
         TsBand::Cool => 3,
         TsBand::Warm => 4,
-        TsBand::Hot => 2,
     }
 }
 
@@ -47,9 +47,9 @@ pub fn number(b: Band) -> u32
     match b {
         Band::Normal => 0,
         Band::Cold => 1,
+        Band::Hot => 2,
         Band::Cool => 3,
         Band::Warm => 4,
-        Band::Hot => 2,
         Band::Mixed => 7,
     }
 }

@@ -6,7 +6,6 @@ use settle_bands::joined;
 use settle_levels::comparators;
 use settle_permission::bits;
 use settle_permission::limits;
-use state_parts::band;
 use state_parts::flags::Edges;
 use state_parts::phase;
 use state_parts::state::State;
@@ -42,8 +41,7 @@ pub fn seen_in(s: State) -> Seen
     let expired = expiry::expired(profile, s.watchdog);
     let limit = limits::any_reached(profile, s.cycle);
     let phase = phase::number(at);
-    let pack = joined::pack_band(held);
-    let band = band::number(pack);
+    let band = joined::pack_number(held);
     Seen {
         good,
         iindpm,
