@@ -3,7 +3,7 @@ ghost use Rattle.std.specs.Prelude.{◌≡◌};
 ghost use Rattle.c_calls.specs.Landing.{answered};
 
 #[repr(C)]
-#[derive(Drop)]
+#[derive(Clone, Copy)]
 pub struct Answer {
     pub number: u32,
     pub place: usize,
@@ -17,7 +17,7 @@ pub(crate) fn answered(number: u32) -> Answer
 }
 
 #[repr(C)]
-#[derive(Drop)]
+#[derive(Clone, Copy)]
 pub struct Played {
     pub number: u32,
     // of the record that was read; 0 if none was
@@ -29,7 +29,7 @@ pub struct Played {
 }
 
 #[repr(C)]
-#[derive(Drop)]
+#[derive(Clone, Copy)]
 pub struct Replayed {
     pub number: u32,
     // 0 at the log's end; else 1 to 5, of what can't be read
@@ -43,7 +43,7 @@ pub struct Replayed {
 }
 
 #[repr(C)]
-#[derive(Drop)]
+#[derive(Clone, Copy)]
 pub struct Byte {
     pub number: u32,
     pub byte: u32,
@@ -51,7 +51,7 @@ pub struct Byte {
 }
 
 #[repr(C)]
-#[derive(Drop)]
+#[derive(Clone, Copy)]
 pub struct Put {
     pub number: u32,
     // bytes of the record
@@ -60,7 +60,7 @@ pub struct Put {
 }
 
 #[repr(C)]
-#[derive(Drop)]
+#[derive(Clone, Copy)]
 pub struct ComparedLogs {
     pub number: u32,
     // whose rest it is: 1 or 2; 0 with a refusal

@@ -1,4 +1,6 @@
 // What a head's C firmware calls: a handful of functions on numbers and byte slices.
+#![tactic(auto)]
+
 pub mod answer;
 pub mod comparing;
 mod landing;

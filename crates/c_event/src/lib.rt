@@ -1,4 +1,6 @@
 // An event given outside a log: its kind, and the kind's numbers as words.
+#![tactic(auto)]
+
 ghost use Rattle.c_event.specs.PublicPromises.{EventOfPromise};
 
 use base::refusal::Refusal;
@@ -6,7 +8,7 @@ use log_event::fields::MOST;
 use log_event::kinds::Known;
 use log_event::{Event, fields, kinds};
 
-#[derive(Drop)]
+#[derive(Clone, Copy)]
 pub enum Given {
     Event(Event),
     Refused(Refusal),

@@ -1,4 +1,6 @@
 // A model's image: its format, its numbers as words, and the model back out of them.
+#![tactic(auto)]
+
 ghost use Rattle.std.specs.Prelude.{◌≡◌, ◌∷◌, length};
 ghost use Rattle.c_words.specs.Words.{bytes_of};
 ghost use Rattle.c_words.specs.Same.{same_bytes};
@@ -18,7 +20,7 @@ const FORMAT: u32 = 8;
 const LENGTH: usize = 4 + COUNT * 4;
 
 // The model of an image, or that the bytes aren't one.
-#[derive(Drop)]
+#[derive(Clone, Copy)]
 pub enum Loaded {
     Held(Model),
     NoImage,

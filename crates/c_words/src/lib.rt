@@ -1,4 +1,6 @@
 // Words: 32-bit numbers in bytes, lowest byte first. Read out of lent bytes, and written at the start of a lent part.
+#![tactic(auto)]
+
 pub mod same;
 
 ghost use Rattle.std.specs.Prelude.{◌≡◌, ◌+◌, ◌*◌, ◌^◌, ◌≤◌, ◌<◌, length, get_or};

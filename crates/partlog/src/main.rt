@@ -1,11 +1,13 @@
 // Compares the two logs that its arguments name: prints `rest FIRST` or `rest SECOND` and an offset, or `refused`, a number, a record and an offset.
 // What matters is in the crates below: main reads, compares and prints.
+#![tactic(auto)]
+
 use base::written::Written;
 use libc::{STDERR_FILENO, STDOUT_FILENO};
 use log_pairs::answer::Compared;
 
 // How many bytes a file has, 65,537 for more than a log may have; or that it can't be read.
-#[derive(Drop)]
+#[derive(Clone, Copy)]
 enum Loaded {
     Bytes(usize),
     Unreadable,

@@ -1,4 +1,6 @@
 // The text of a page of a walk: its records' lines, one after the other, written whole into a lent part or not at all.
+#![tactic(auto)]
+
 ghost use Rattle.std.specs.Prelude.{◌≡◌, ◌≤◌, min, length, take};
 ghost use Rattle.report_pages.specs.Text.{numbers_of, lines_text, page_count, most_page};
 ghost use Rattle.report_pages.specs.PublicPromises.{PageWidthPromise, PagePromise};

@@ -1,4 +1,6 @@
 // Reading a register: any address of the map, of a model that is on.
+#![tactic(auto)]
+
 ghost use Rattle.std.specs.Prelude.{◌≡◌, ◌*◌, ◌%◌, ◌^◌, ◌≤◌};
 ghost use Rattle.report_registers.specs.Reads.{code_of, value_by};
 ghost use Rattle.report_registers.specs.PublicPromises.{ReadPromise, ReadRegisterPromise};
@@ -13,7 +15,7 @@ use step_flags::between;
 pub mod codes;
 pub mod flags;
 
-#[derive(Drop)]
+#[derive(Clone, Copy)]
 pub enum ReadAnswer {
     Byte(u8),
     Refused(Refusal),

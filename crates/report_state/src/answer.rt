@@ -2,7 +2,7 @@
 use base::units::PackMv;
 use state_parts::phase::Phase;
 
-#[derive(Drop)]
+#[derive(Clone, Copy)]
 pub struct Report {
     pub phase: Phase,
     // the charge current and the input limit, in mA
@@ -11,7 +11,7 @@ pub struct Report {
     pub limit: u32,
 }
 
-#[derive(Drop)]
+#[derive(Clone, Copy)]
 pub enum Stat {
     Low,
     Blinking,

@@ -1,4 +1,6 @@
 // What the model shows: its report, and the STAT pin.
+#![tactic(auto)]
+
 pub mod answer;
 pub mod line;
 pub mod report;

@@ -8,7 +8,7 @@ use state_parts::phase;
 use state_parts::state::Model;
 
 // The nine numbers of a record's line.
-#[derive(Drop)]
+#[derive(Clone, Copy)]
 pub struct Line {
     pub number: u32,
     pub kind: u32,

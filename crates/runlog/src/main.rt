@@ -1,4 +1,6 @@
 // Prints what the log on standard input comes to: reads it, then writes out page after page. All that matters is in `step_text::print`.
+#![tactic(auto)]
+
 ghost use Rattle.std.specs.Prelude.{◌≡◌, true, length};
 ghost use Rattle.step_text.specs.Prints.{next_text, print_told, printed};
 

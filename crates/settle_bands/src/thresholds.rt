@@ -9,7 +9,7 @@ use state_parts::profile::Profile;
 use state_parts::registers::Registers;
 
 // What the registers say of bands: whether they are judged, cool and warm too, and the thresholds.
-#[derive(Drop)]
+#[derive(Clone, Copy)]
 pub struct Marks {
     pub off: bool,
     pub jeita: bool,

@@ -1,4 +1,6 @@
 // What a sample and the settings say: its bits, permission, stage limits, the end of a charge.
+#![tactic(auto)]
+
 pub mod bits;
 pub mod ending;
 pub mod limits;

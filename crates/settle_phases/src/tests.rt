@@ -1,5 +1,5 @@
 // Everything that settling tests, as one record of Booleans.
-#[derive(Drop)]
+#[derive(Clone, Copy)]
 pub struct Tests {
     pub permitted: bool,
     // thermal shutdown, battery over or a stage limit reached

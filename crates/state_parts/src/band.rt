@@ -3,7 +3,7 @@ ghost use Rattle.std.specs.Prelude.{◌≡◌};
 ghost use Rattle.state_parts.specs.Numbers.{ts_band_number, band_number};
 
 // What one TS value is in, in the order of the bands' numbers.
-#[derive(Drop)]
+#[derive(Clone, Copy)]
 pub enum TsBand {
     Normal,
     Cold,
@@ -13,14 +13,14 @@ pub enum TsBand {
 }
 
 // What each of a pack's two thermistors is in.
-#[derive(Drop)]
+#[derive(Clone, Copy)]
 pub struct Bands {
     pub first: TsBand,
     pub second: TsBand,
 }
 
 // What the two thermistors of a pack come to; one cool beside one warm is a band of its own.
-#[derive(Drop)]
+#[derive(Clone, Copy)]
 pub enum Band {
     Normal,
     Cold,

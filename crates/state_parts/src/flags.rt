@@ -5,7 +5,7 @@ ghost use Rattle.state_parts.specs.Edges.{flags_number, merged, pulse_of};
 use base::choice::bit;
 
 // An event's edges: which flags it raises.
-#[derive(Drop)]
+#[derive(Clone, Copy)]
 pub struct Edges {
     pub good: bool,
     pub lost: bool,

@@ -3,7 +3,7 @@ ghost use Rattle.std.specs.Prelude.{◌≡◌};
 ghost use Rattle.state_parts.specs.Numbers.{phase_number};
 ghost use Rattle.state_parts.specs.Stages.{in_trickle, in_precharge, in_fast, charging};
 
-#[derive(Drop)]
+#[derive(Clone, Copy)]
 pub enum Phase {
     Idle,
     Trickle,

@@ -1,3 +1,5 @@
 // Registers: written and reset.
+#![tactic(auto)]
+
 pub mod resetting;
 pub mod writing;

@@ -17,7 +17,7 @@ use state_parts::settings::Settings;
 use state_parts::state::State;
 use state_start::start_vsysmin;
 
-#[derive(Drop)]
+#[derive(Clone, Copy)]
 pub enum WriteAnswer {
     Stored(State),
     Refused(Refusal),

@@ -17,7 +17,7 @@ use state_settings::ranges::may_hold;
 use state_table::{Access, row_at, rows_below};
 
 // What runs change of a state.
-#[derive(Drop)]
+#[derive(Clone, Copy)]
 pub struct Kept {
     pub settings: Settings,
     pub words: Words,

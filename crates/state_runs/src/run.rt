@@ -17,7 +17,7 @@ use state_parts::state::State;
 use state_table::rows_below;
 
 // What a run leaves of what it may change, or the refusal.
-#[derive(Drop)]
+#[derive(Clone, Copy)]
 pub enum RunAnswer {
     Taken(Kept),
     Refused(Refusal),

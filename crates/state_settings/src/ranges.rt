@@ -5,7 +5,7 @@ ghost use Rattle.state_settings.specs.Ranges.{known_setting, in_range, range_of,
 use state_parts::profile::Profile;
 
 // The least and the greatest value, and the step of those between.
-#[derive(Drop)]
+#[derive(Clone, Copy)]
 pub struct Range {
     pub low: u32,
     pub high: u32,

@@ -1,4 +1,6 @@
 // What a power-on begins with, and a register reset returns to.
+#![tactic(auto)]
+
 ghost use Rattle.std.specs.Prelude.{◌≡◌};
 ghost use Rattle.state_start.specs.Values.{start_vreg, start_ichg, start_vsysmin, start_settings, start_registers};
 ghost use Rattle.state_start.specs.Values.{start_sample, start_cycle, start_watchdog, start_latches, start_bands, start_state};

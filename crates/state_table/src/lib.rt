@@ -1,10 +1,12 @@
 // The table of register fields as the code has it: where each stands, and what stands in it.
+#![tactic(auto)]
+
 ghost use Rattle.std.specs.Prelude.{◌≡◌, true, ◌≤◌};
 ghost use Rattle.state_table.specs.Rows.{fields};
 ghost use Rattle.state_table.specs.Packed.{access_by, row_by, row_of, field_at, packed_at, below};
 
 // What stands in a field.
-#[derive(Drop)]
+#[derive(Clone, Copy)]
 pub enum Access {
     // nothing: reserved
     Reserved,
@@ -28,7 +30,7 @@ pub enum Access {
     Acts(u32),
 }
 
-#[derive(Drop)]
+#[derive(Clone, Copy)]
 pub struct Row {
     pub address: u32,
     pub low: u32,

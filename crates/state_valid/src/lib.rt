@@ -1,2 +1,4 @@
 // What each part of the state may hold.
+#![tactic(auto)]
+
 pub mod holds;

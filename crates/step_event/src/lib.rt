@@ -1,4 +1,6 @@
 // The charger's model, moved by one event or by one record of a log.
+#![tactic(auto)]
+
 pub mod clock;
 pub mod paging;
 pub mod replaying;

@@ -10,7 +10,7 @@ use state_parts::flags::Edges;
 use state_parts::phase;
 use state_parts::state::State;
 
-#[derive(Drop)]
+#[derive(Clone, Copy)]
 pub struct Seen {
     pub good: bool,
     pub iindpm: bool,

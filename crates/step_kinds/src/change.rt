@@ -3,7 +3,7 @@ use base::refusal::Refusal;
 use state_parts::state::State;
 
 // How an accepted event ends: as any other; as an observation, on which a charge may be done; by handing back the flags; by handing back a flag register's byte; as a power-on.
-#[derive(Drop)]
+#[derive(Clone, Copy)]
 pub enum Way {
     Plain,
     Observes,
@@ -13,7 +13,7 @@ pub enum Way {
     Powers,
 }
 
-#[derive(Drop)]
+#[derive(Clone, Copy)]
 pub enum Change {
     Made(State, Way),
     Refused(Refusal),

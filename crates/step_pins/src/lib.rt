@@ -1,4 +1,6 @@
 // The code that a resistor at one of the pins CELL, VCHG and ICHG stands for.
+#![tactic(auto)]
+
 ghost use Rattle.std.specs.Prelude.{◌≡◌};
 ghost use Rattle.base.specs.Pick.{pick};
 ghost use Rattle.step_pins.specs.Codes.{distance, matches, code_of};

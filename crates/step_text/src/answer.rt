@@ -3,7 +3,7 @@ use base::refusal::Refusal;
 use step_event::walking::Walk;
 
 // How many bytes were written, the walk behind the page, and whether nothing follows; or a refusal, and not a byte was changed.
-#[derive(Drop)]
+#[derive(Clone, Copy)]
 pub enum Print {
     Page(usize, Walk, bool),
     Refused(Refusal),

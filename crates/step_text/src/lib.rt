@@ -1,4 +1,6 @@
 // What `runlog` prints of a log, page by page, each written whole into a lent buffer or not at all: all that the program does between its read and its writes.
+#![tactic(auto)]
+
 pub mod answer;
 
 ghost use Rattle.std.specs.Prelude.{◌≡◌, ◌++◌, ◌≤◌, length};

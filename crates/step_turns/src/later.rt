@@ -2,7 +2,7 @@
 use log_raw::RawBytes;
 use state_parts::sample::Sample;
 
-#[derive(Drop)]
+#[derive(Clone, Copy)]
 pub enum Later {
     // a setting's number and its value
     Set(u32, u32),

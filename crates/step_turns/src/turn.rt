@@ -10,7 +10,7 @@ use state_parts::profile::Profile;
 use state_parts::sample::Sample;
 
 // It opens a run with a held profile, or it follows; or a number of it is outside its kind's range.
-#[derive(Drop)]
+#[derive(Clone, Copy)]
 pub enum Turn {
     Opens(Profile),
     Follows(Later),

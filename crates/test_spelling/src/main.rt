@@ -1,4 +1,6 @@
 // Runs the log's spelling over stored bytes: each file at every place, cut off at every length, and its first event written into rooms of every size.
+#![tactic(auto)]
+
 use base::refusal;
 use base::written::Written;
 use libc::STDOUT_FILENO;

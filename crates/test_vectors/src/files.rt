@@ -1,7 +1,7 @@
 // Reads a stored file.
 
 // How many bytes it has, as far as the lent part has room; or that there is none.
-#[derive(Drop)]
+#[derive(Clone, Copy)]
 pub enum Loaded {
     Bytes(usize),
     Missing,

@@ -1,4 +1,6 @@
 // What the installed programs don't print: `held FILE` prints what the model holds after each record of a stored log once it is powered; two files beside each other, `FILE FILE`, how many bytes are handed back of them.
+#![tactic(auto)]
+
 ghost use Rattle.std.specs.Prelude.{◌≤◌};
 
 mod files;
