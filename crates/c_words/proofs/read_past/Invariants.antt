@@ -1,10 +1,9 @@
 -- `read_past` meets its contract: what is stored and what is left to store come to all the words.
-use Prim.Native.Nat.{◌+◌, ◌-◌, ◌*◌, ◌^◌, ◌≤◌}
-use mathlib.Core.Path.{◌≡◌, refl, ◌∙◌}
-use native.Mathlib.Omega.{arith}
-use lib.ListN.{length, length-set}
+use Prim.Native.Nat.{◌-◌, ◌≤◌}
+use mathlib.Core.Path.{◌≡◌}
+use lib.ListN.{length}
 use lib.Seq.{sets}
-use Rattle.c_words.proofs.Turns.{to_read, read_more, read_none}
+use Rattle.c_words.proofs.Turns.{to_read}
 use Rattle.c_words.proofs.read_past.Given as goal
 
 abbrev pub invariant-loop-i : goal.invariant-loop-i

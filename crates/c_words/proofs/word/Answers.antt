@@ -1,5 +1,4 @@
 -- `word` meets its contract: its four bytes.
-use borrow.Author.Rules.{rules}
 use Rattle.c_words.specs.Words.{word_at}
 use Rattle.c_words.proofs.word.Goals as goal
 

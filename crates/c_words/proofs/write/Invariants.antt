@@ -1,15 +1,9 @@
 -- `write` meets its contract: at each turn, what is stored and what is left to store come to all the bytes.
-use Prim.Native.Nat.{◌+◌, ◌-◌, ◌*◌, ◌^◌, ◌≤◌, ◌<◌}
-use mathlib.Core.Path.{◌≡◌, refl, sym, ap, ◌∙◌}
-use native.Mathlib.Omega.{arith}
-use borrow.Author.Rules.{rules}
-use lib.ListN.{length, drop, length-set}
+use Prim.Native.Nat.{◌-◌, ◌*◌, ◌≤◌}
+use mathlib.Core.Path.{◌≡◌}
+use lib.ListN.{length, drop}
 use lib.Seq.{sets}
-use Rattle.base.specs.Writing.{wrote}
-use Rattle.base.proofs.Puts.{put-fits, put-short, written-fits, written-short}
 use Rattle.c_words.specs.Words.{bytes_of}
-use Rattle.c_words.proofs.WordLaws.{length-bytes}
-use Rattle.c_words.proofs.Turns.{write-more, write-none}
 use Rattle.c_words.proofs.write.Given as goal
 
 abbrev pub invariant-loop-i : goal.invariant-loop-i

@@ -1,12 +1,10 @@
 -- `same` meets its contract: what was compared and what is left to compare come to the same.
-use Prim.Native.Nat.{◌+◌, ◌-◌, ◌*◌, ◌^◌, ◌≤◌, ◌<◌}
-use mathlib.Core.Path.{◌≡◌, refl, ◌∙◌}
+use Prim.Native.Nat.{◌-◌, ◌*◌, ◌≤◌}
+use mathlib.Core.Path.{◌≡◌}
 use mathlib.Core.Bool.{◌&&◌}
-use native.Mathlib.Omega.{arith}
 use lib.ListN.{length, drop}
 use Rattle.c_words.specs.Same.{same_bytes}
 use Rattle.c_words.specs.Words.{bytes_of}
-use Rattle.c_words.proofs.Sames.{other-length, left-turn, left-none}
 use Rattle.c_words.proofs.same.same.Given as goal
 
 abbrev pub invariant-loop-i : goal.invariant-loop-i
