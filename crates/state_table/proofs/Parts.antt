@@ -1,10 +1,8 @@
 -- The parts of a row are its field's, with their bounds.
-use Prim.Native.Nat.{ℕ, ◌+◌, ◌*◌, ◌%◌, ◌≤◌}
+use Prim.Native.Nat.{ℕ, ◌≤◌}
 use mathlib.Core.Path.{◌≡◌, sym, ap, subst}
-use Rattle.state_table.specs.Rows.{bit_of}
 use Rattle.state_table.specs.Packed.{field_at, row_of}
 use Rattle.state_table.specs.declared.Row.{Row}
-use Rattle.state_table.specs.declared.Access.{Access}
 use Rattle.state_table.proofs.Tested.{field_fits}
 use Rattle.state_table.proofs.Unpacked.{Fit, fit}
 

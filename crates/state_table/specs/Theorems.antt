@@ -3,7 +3,7 @@ use Rattle.std.specs.Prelude.{ℕ, ◌+◌, ◌*◌, ◌^◌, ◌<◌, ◌≡◌
 use Rattle.base.specs.Pick.{bit_of}
 use Rattle.state_table.specs.Rows.{Field, fields, map_size}
 use Rattle.state_table.specs.Rows as rows
-use Rattle.state_table.specs.Packed.{field_count, field_at}
+use Rattle.state_table.specs.Packed.{field_at}
 
 -- how many fields have this bit of the map
 abbrev pub fields_with : List Field → ℕ → ℕ

@@ -43,6 +43,7 @@ pub const FIELDS: u32 = 147;
 
 // A field's number, from bit 0 of 0x00 up: two digits for the address, one for the lowest bit, two for the width, one for the kind of access, two and two for what it carries.
 // specs/Rows.antt is the table to read. A `match`, since an array would be laid on the stack.
+#[tactic(auto, unfolding(crate::specs::Packed::packed_at, crate::specs::Packed::field_at, crate::specs::Rows::fields))]
 fn packed(number: u32) -> u64
     ensures { result ≡ packed_at number }
 {
@@ -198,6 +199,7 @@ fn packed(number: u32) -> u64
 }
 
 // An access by its kind and what it carries.
+#[tactic(auto, unfolding(crate::specs::Packed::access_by))]
 fn access_by(kind: u32, first: u32, second: u32) -> Access
     ensures { result ≡ access_by kind first second }
 {
@@ -240,6 +242,7 @@ pub fn row_at(number: u32) -> Row
 }
 
 // How many fields stand before the first one of an address.
+#[tactic(auto, unfolding(crate::specs::Rows::fields))]
 pub fn rows_below(address: u32) -> u32
     ensures { result ≡ below address fields }
 {
