@@ -20,6 +20,7 @@ pub fn known(p: Profile, number: u32) -> bool
 }
 
 // The table's row of a number: settings 1 to 14 at theirs, and nothing is in the range at 0. A `match`, since an array would be laid on the stack.
+#[tactic(auto, unfolding(crate::specs::Ranges::range_of, crate::specs::Ranges::ranges))]
 fn range_of(p: Profile, number: u32) -> Range
     ensures { result ≡ range_of p number }
 {
