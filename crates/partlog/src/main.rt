@@ -2,9 +2,12 @@
 // What matters is in the crates below: main reads, compares and prints.
 #![tactic(auto)]
 
+mod reading;
+
 use base::written::Written;
-use libc::{STDERR_FILENO, STDOUT_FILENO};
 use log_pairs::answer::Compared;
+use std::io;
+use std::rt::{Env, Files};
 
 // How many bytes a file has, 65,537 for more than a log may have; or that it can't be read.
 #[derive(Clone, Copy)]
@@ -14,62 +17,60 @@ enum Loaded {
 }
 
 // Tells which file can't be read, and why.
-fn unreadable(name: &[u8]) -> Loaded {
-    io::write_all(STDERR_FILENO, b"partlog: cannot read ");
-    os::fail(name);
+fn unreadable<P: io::Print>(to: &P, name: &[u8], error: &io::Error) -> Loaded {
+    let _ = to.write_all(b"partlog: cannot read ");
+    reading::fail(to, name, error);
     Loaded::Unreadable
 }
 
-// Reads the file that an argument names. A read that fails looks like the file's end: one more read tells the two apart.
-fn load(i: usize, log: &mut [u8]) -> Loaded {
-    let mut name = io::buffer();
-    let length = os::arg(i, &mut name);
-    let fd = os::open_read(&name[..length]);
-    if fd < 0 {
-        return unreadable(&name[..length]);
-    }
-    let n = io::read_full(fd, log);
-    let mut more = [0u8; 1];
-    let left = libc::read(fd, &mut more);
-    libc::close(fd);
-    if n < log.len() {
-        if left != 0 {
-            return unreadable(&name[..length]);
+// Reads the file that an argument names.
+fn load<R: Env + Files, P: io::Print>(rt: &R, to: &P, i: usize, log: &mut [u8]) -> Loaded {
+    let mut name = [0u8; 4096];
+    let length = rt.arg(i, &mut name).unwrap_or(0);
+    let opened = reading::open(rt, &name[..length]);
+    match opened {
+        Ok(mut file) => {
+            let (n, read) = reading::read_full(&mut file, log);
+            match read {
+                Ok(()) => Loaded::Bytes(n),
+                Err(error) => unreadable(to, &name[..length], &error),
+            }
         }
+        Err(error) => unreadable(to, &name[..length], &error),
     }
-    Loaded::Bytes(n)
 }
 
 // Prints what the comparison came to.
-fn print_answer(compared: Compared) {
+fn print_answer<P: io::Print>(to: &P, compared: Compared) {
     let mut out = [0u8; 64];
     let put = log_pairs::text::answer(&mut out, compared);
     let Written::Count(n) = put else {
         return;
     };
     if n <= 64 {
-        io::write_all(STDOUT_FILENO, &out[..n]);
+        let _ = to.write_all(&out[..n]);
     }
 }
 
-fn main() {
-    if os::arg_count() != 3 {
-        io::write_all(STDERR_FILENO, b"usage: partlog FIRST SECOND\n");
+fn main(rt: HostRuntime) {
+    let err = rt.stderr();
+    if reading::arg_count(&rt) != 3 {
+        let _ = io::Print::write_all(&err, b"usage: partlog FIRST SECOND\n");
         return;
     }
     let mut first = [0u8; 65537];
     let mut second = [0u8; 65537];
-    let one = load(1, &mut first);
+    let one = load(&rt, &err, 1, &mut first);
     let Loaded::Bytes(n) = one else {
         return;
     };
-    let other = load(2, &mut second);
+    let other = load(&rt, &err, 2, &mut second);
     let Loaded::Bytes(m) = other else {
         return;
     };
     if n <= 65537 {
         if m <= 65537 {
-            print_answer(log_pairs::compare_inputs(&first[..n], &second[..m]));
+            print_answer(&rt, log_pairs::compare_inputs(&first[..n], &second[..m]));
         }
     }
 }

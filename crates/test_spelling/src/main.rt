@@ -1,75 +1,78 @@
 // Runs the log's spelling over stored bytes: each file at every place, cut off at every length, and its first event written into rooms of every size.
 #![tactic(auto)]
 
+mod reading;
+
 use base::refusal;
 use base::written::Written;
-use libc::STDOUT_FILENO;
 use log_event::{Event, kinds};
 use log_record::answer::Read;
+use std::io::Print;
+use std::rt::{Env, Files};
 
-fn say(n: usize) {
-    io::print_decimal(STDOUT_FILENO, n as u64);
+fn say(to: &impl Print, n: usize) {
+    let _ = to.print(n);
 }
 
-fn text(s: &[u8]) {
-    io::write_all(STDOUT_FILENO, s);
+fn text(to: &impl Print, s: &[u8]) {
+    let _ = to.write_all(s);
 }
 
 // What was read: `record KIND to NEXT`, `refused NUMBER at PLACE`, or `end`.
-fn tell(got: Read) {
+fn tell(to: &impl Print, got: Read) {
     match got {
         Read::Record(e, next) => {
-            text(b"record ");
-            io::print_decimal(STDOUT_FILENO, kinds::byte(log_event::kind(e)) as u64);
-            text(b" to ");
-            say(next);
+            text(to, b"record ");
+            let _ = to.print(kinds::byte(log_event::kind(e)));
+            text(to, b" to ");
+            say(to, next);
         }
         Read::Refused(r, place) => {
-            text(b"refused ");
-            io::print_decimal(STDOUT_FILENO, refusal::number(r) as u64);
-            text(b" at ");
-            say(place);
+            text(to, b"refused ");
+            let _ = to.print(refusal::number(r));
+            text(to, b" at ");
+            say(to, place);
         }
         Read::End => {
-            text(b"end");
+            text(to, b"end");
         }
     }
-    text(b"\n");
+    text(to, b"\n");
 }
 
-fn place(log: &[u8], at: usize) {
-    text(b"place ");
-    say(at);
-    text(b": ");
-    tell(log_record::read(log, at));
+fn place(to: &impl Print, log: &[u8], at: usize) {
+    text(to, b"place ");
+    say(to, at);
+    text(to, b": ");
+    tell(to, log_record::read(log, at));
 }
 
 // At every place, at the end, and past it.
-fn places(log: &[u8]) {
+fn places(to: &impl Print, log: &[u8]) {
     let mut at: usize = 0;
     while at < log.len() {
-        place(log, at);
+        place(to, log, at);
         at += 1;
     }
-    place(log, at);
-    place(log, 300);
+    place(to, log, at);
+    place(to, log, 300);
 }
 
-fn cut(log: &[u8], length: usize) {
+fn cut(to: &impl Print, log: &[u8], length: usize) {
     if log.len() < length {
         return;
     }
-    text(b"cut ");
-    say(length);
-    text(b": ");
-    tell(log_record::read(&log[..length], 0));
+    text(to, b"cut ");
+    say(to, length);
+    text(to, b": ");
+    tell(to, log_record::read(&log[..length], 0));
 }
 
 // Cut off at every length.
-fn cuts(log: &[u8]) {
+fn cuts(to: &impl Print, log: &[u8]) {
     let mut length: usize = 0;
     while length < log.len() {
-        cut(log, length);
+        cut(to, log, length);
         length += 1;
     }
 }
@@ -88,38 +91,38 @@ fn changed(buffer: [u8; 64]) -> usize {
 }
 
 // Written into a lent part: what the writer answers, and what reads back.
-fn written(part: &mut [u8], e: Event) {
+fn written(to: &impl Print, part: &mut [u8], e: Event) {
     match log_record::write(part, e) {
         Written::Count(n) => {
-            text(b"wrote ");
-            say(n);
+            text(to, b"wrote ");
+            say(to, n);
         }
         Written::Refused(r) => {
-            text(b"refused ");
-            io::print_decimal(STDOUT_FILENO, refusal::number(r) as u64);
+            text(to, b"refused ");
+            let _ = to.print(refusal::number(r));
         }
     }
-    text(b", ");
-    tell(log_record::read(part, 0));
+    text(to, b", ");
+    tell(to, log_record::read(part, 0));
 }
 
 // Written into so much room of a larger buffer, and how many bytes of that changed.
-fn room(e: Event, size: usize) {
+fn room(to: &impl Print, e: Event, size: usize) {
     if 64 < size {
         return;
     }
     let mut buffer = [0xEEu8; 64];
-    text(b"room ");
-    say(size);
-    text(b": ");
-    written(&mut buffer[..size], e);
-    text(b"changed ");
-    say(changed(buffer));
-    text(b"\n");
+    text(to, b"room ");
+    say(to, size);
+    text(to, b": ");
+    written(to, &mut buffer[..size], e);
+    text(to, b"changed ");
+    say(to, changed(buffer));
+    text(to, b"\n");
 }
 
 // Its first event, written into rooms from none to one byte more than it has.
-fn rooms(log: &[u8]) {
+fn rooms(to: &impl Print, log: &[u8]) {
     let got = log_record::read(log, 0);
     let Read::Record(e, _) = got else {
         return;
@@ -127,35 +130,34 @@ fn rooms(log: &[u8]) {
     let most = log_record::width(e) + 2;
     let mut size: usize = 0;
     while size < most {
-        room(e, size);
+        room(to, e, size);
         size += 1;
     }
 }
 
-fn run_file(i: usize) {
-    let mut path = io::buffer();
-    let length = os::arg(i, &mut path);
-    text(b"== ");
-    text(&path[..length]);
-    text(b"\n");
-    let fd = os::open_read(&path[..length]);
-    if fd < 0 {
-        os::fail(&path[..length]);
-        return;
+fn run_file(rt: &(impl Env + Files), to: &impl Print, err: &impl Print, i: usize) {
+    let mut path = [0u8; 4096];
+    let length = rt.arg(i, &mut path).unwrap_or(0);
+    text(to, b"== ");
+    text(to, &path[..length]);
+    text(to, b"\n");
+    match reading::open(rt, &path[..length]) {
+        Ok(mut file) => {
+            let mut input = [0u8; 256];
+            let (n, _) = reading::read_full(&mut file, &mut input);
+            places(to, &input[..n]);
+            cuts(to, &input[..n]);
+            rooms(to, &input[..n]);
+        }
+        Err(error) => reading::fail(err, &path[..length], &error),
     }
-    let mut input = [0u8; 256];
-    let n = io::read_full(fd, &mut input);
-    libc::close(fd);
-    places(&input[..n]);
-    cuts(&input[..n]);
-    rooms(&input[..n]);
 }
 
-fn main() {
-    let count = os::arg_count();
+fn main(rt: HostRuntime) {
+    let count = reading::arg_count(&rt);
     let mut i = 1;
     while i < count {
-        run_file(i);
+        run_file(&rt, &rt.stdout(), &rt.stderr(), i);
         i += 1;
     }
 }

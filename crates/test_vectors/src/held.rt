@@ -6,58 +6,59 @@ use settle_bands::joined;
 use state_parts::band::Band;
 use state_parts::state::{Model, State};
 use state_settings::numbered;
+use std::io::Print;
 use step_event::walking::Met;
 
-fn registers(s: State) {
+fn registers(to: &impl Print, s: State) {
     let mut address: u32 = 0;
     while address < 0x27 {
         let byte = report_registers::read(s, address);
-        say::number(byte as u32);
+        say::number(to, byte as u32);
         address += 1;
     }
 }
 
-fn settings(s: State) {
+fn settings(to: &impl Print, s: State) {
     let held = s.settings;
     let mut number: u32 = 1;
     while number < 15 {
-        say::number(numbered::held(held, number));
+        say::number(to, numbered::held(held, number));
         number += 1;
     }
 }
 
-fn band(b: Band) {
+fn band(to: &impl Print, b: Band) {
     match b {
-        Band::Normal => say::text(b"normal "),
-        Band::Cold => say::text(b"cold "),
-        Band::Cool => say::text(b"cool "),
-        Band::Warm => say::text(b"warm "),
-        Band::Hot => say::text(b"hot "),
-        Band::Mixed => say::text(b"mixed "),
+        Band::Normal => say::text(to, b"normal "),
+        Band::Cold => say::text(to, b"cold "),
+        Band::Cool => say::text(to, b"cool "),
+        Band::Warm => say::text(to, b"warm "),
+        Band::Hot => say::text(to, b"hot "),
+        Band::Mixed => say::text(to, b"mixed "),
     }
 }
 
-fn pin(s: Stat) {
+fn pin(to: &impl Print, s: Stat) {
     match s {
-        Stat::Low => say::text(b"low "),
-        Stat::Blinking => say::text(b"blinking "),
-        Stat::High => say::text(b"high "),
+        Stat::Low => say::text(to, b"low "),
+        Stat::Blinking => say::text(to, b"blinking "),
+        Stat::High => say::text(to, b"high "),
     }
 }
 
-fn state(s: State) {
-    say::text(b": ");
-    registers(s);
-    say::text(b": ");
-    settings(s);
-    say::text(b": ");
+fn state(to: &impl Print, s: State) {
+    say::text(to, b": ");
+    registers(to, s);
+    say::text(to, b": ");
+    settings(to, s);
+    say::text(to, b": ");
     let held = s.bands;
     let b = joined::pack_band(held);
-    band(b);
-    pin(stat::stat(s));
+    band(to, b);
+    pin(to, stat::stat(s));
 }
 
-pub(crate) fn print(m: Met) {
+pub(crate) fn print(to: &impl Print, m: Met) {
     let number = m.line.number;
     let walk = m.walk;
     let handed = walk.came.handed;
@@ -65,10 +66,10 @@ pub(crate) fn print(m: Met) {
     match model {
         Model::Off => {}
         Model::On(s) => {
-            say::number(number);
-            state(s);
-            say::decimal(handed);
-            say::text(b"\n");
+            say::number(to, number);
+            state(to, s);
+            say::decimal(to, handed);
+            say::text(to, b"\n");
         }
     }
 }

@@ -1,16 +1,16 @@
 // Prints texts and numbers.
-use libc::STDOUT_FILENO;
+use std::io::Print;
 
-pub(crate) fn text(s: &[u8]) {
-    io::write_all(STDOUT_FILENO, s);
+pub(crate) fn text(to: &impl Print, s: &[u8]) {
+    let _ = to.write_all(s);
 }
 
-pub(crate) fn decimal(n: u32) {
-    io::print_decimal(STDOUT_FILENO, n as u64);
+pub(crate) fn decimal(to: &impl Print, n: u32) {
+    let _ = to.print(n);
 }
 
 // A number and a space.
-pub(crate) fn number(n: u32) {
-    decimal(n);
-    text(b" ");
+pub(crate) fn number(to: &impl Print, n: u32) {
+    decimal(to, n);
+    text(to, b" ");
 }
