@@ -1,7 +1,7 @@
 -- Laws of fields that are put: each field that is put has its code, every other stands; and words are settled by their fields.
 use Prim.Native.Nat.{ℕ, zero, suc, ◌+◌, ◌*◌, ◌/◌, ◌%◌, ◌^◌, ◌≤◌, ◌<◌}
 use mathlib.Core.Path.{◌≡◌, refl, sym, ap, subst, ◌∙◌}
-use mathlib.Core.Bool.{Bool, true, false, ◌&&◌}
+use mathlib.Core.Bool.{Bool, true, false}
 use mathlib.Core.List.{List, [], ◌∷◌}
 use native.Mathlib.Nat.{not-suc-le-zero, add_comm, mod-one, mod-lt, mod-eq_of_lt}
 use native.Mathlib.Omega.{arith}

@@ -7,7 +7,7 @@ use native.Mathlib.Omega.{arith}
 use lib.ListN.{length, get_or, set}
 use lib.Pow.{pow-add, high, low, shr-shr}
 use Rattle.base.proofs.Span.{span}
-use Rattle.state_fields.specs.Words.{bits_at, put_at, words_of, word_at, with_word, bits_in, put_in}
+use Rattle.state_fields.specs.Words.{bits_at, put_at, words_of, with_word, bits_in, put_in}
 use Rattle.state_parts.specs.declared.words.Words.{Words}
 use Rattle.state_fields.proofs.Puts.{same-below, part_held, put_small}
 

@@ -1,9 +1,9 @@
 -- Laws of bits that are put in a number: what was put is there, and all other bits stand. Over any place and width.
 use Prim.Native.Nat.{ℕ, ◌+◌, ◌-◌, ◌*◌, ◌/◌, ◌%◌, ◌^◌, ◌≤◌, ◌<◌}
 use mathlib.Core.Path.{◌≡◌, sym, ap, subst, ◌∙◌}
-use native.Mathlib.Nat.{mod-lt, mod-eq_of_lt, add-mul, mul-le-mul, le_refl, add_comm, sub-add_cancel, mod-le, lt_of_lt_of_le, div-lt_iff_lt-mul, div-one}
+use native.Mathlib.Nat.{mod-lt, mod-eq_of_lt, add-mul, mul-le-mul, le_refl, sub-add_cancel, mod-le, lt_of_lt_of_le, div-lt_iff_lt-mul, div-one}
 use native.Mathlib.Omega.{arith}
-use lib.Pow.{pow_pos, pow-add, split, high, low, field, mod-mod-pow, mod-pow-add, shr-shr, shr_lt, shl_lt, pow_mono}
+use lib.Pow.{pow_pos, pow-add, split, high, low, field, mod-mod-pow, shr-shr, shr_lt, shl_lt, pow_mono}
 use Rattle.state_fields.specs.Words.{bits_at, put_at}
 
 module _ (at width v n : ℕ) where

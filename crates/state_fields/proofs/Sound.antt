@@ -1,7 +1,7 @@
 -- Words that hold what they may: they are what their own stored fields come to; and what is gathered or put of stored fields is sound again.
 use Prim.Native.Nat.{ℕ, zero, suc, ◌+◌, ◌*◌, ◌/◌, ◌%◌, ◌^◌, ◌≤◌, ◌<◌}
 use mathlib.Core.Path.{◌≡◌, refl, sym, ap, subst, ◌∙◌}
-use mathlib.Core.Bool.{Bool, true, false, ◌&&◌, ◌||◌, false≢true}
+use mathlib.Core.Bool.{Bool, true, false, ◌&&◌, ◌||◌}
 use mathlib.Core.List.{List, [], ◌∷◌}
 use native.Mathlib.Nat.{mod-lt, mod-eq_of_lt, not-suc-le-zero, mul-le-mul, le_refl}
 use native.Mathlib.Omega.{arith}
@@ -20,7 +20,7 @@ use Rattle.state_fields.specs.Words.{words_of, bits_in}
 use Rattle.state_fields.specs.Held.{field_in, gathered, same_words, words_ok}
 use Rattle.state_fields.proofs.Maps.{Fit, number_of, map_of, get-map}
 use Rattle.state_fields.proofs.Fields.{Whole}
-use Rattle.state_fields.proofs.Gathers.{nth, Ends, stored, gathered-whole, gathered-ends, gathered-field, gathered-is}
+use Rattle.state_fields.proofs.Gathers.{nth, stored, gathered-whole, gathered-ends, gathered-field, gathered-is}
 
 -- a bit that is no stored field's is 0, and so is one past the map's end: field by field, in the table's order
 abbrev pub empty_outside : List Field → Words → Bool

@@ -1,7 +1,7 @@
 -- Laws of a register that is written: over gathered fields, and field by field.
-use Prim.Native.Nat.{ℕ, ◌%◌, ◌^◌, ◌<◌}
-use mathlib.Core.Path.{◌≡◌, refl, sym, ap, subst, ◌∙◌}
-use mathlib.Core.Bool.{Bool, true, false, ◌&&◌, ◌||◌}
+use Prim.Native.Nat.{ℕ, ◌<◌}
+use mathlib.Core.Path.{◌≡◌, sym, ap, subst, ◌∙◌}
+use mathlib.Core.Bool.{Bool, true, ◌&&◌, ◌||◌}
 use native.Mathlib.Nat.{mod-lt, mod-eq_of_lt}
 use lib.Dec.{eqb}
 use lib.Pow.{pow_pos}
@@ -10,9 +10,9 @@ use Rattle.base.proofs.Tests.{and-iff}
 use Rattle.state_parts.specs.declared.profile.Profile.{Profile}
 use Rattle.state_parts.specs.declared.words.Words.{Words}
 use Rattle.state_table.specs.Rows.{Field, fields, fields_of, bit_of, digit_of, vchg_override, cell_override, ichg_override}
-use Rattle.state_fields.specs.Held.{field_in, puts, gathered, taken_by, restored_by, words_ok, without_overrides}
+use Rattle.state_fields.specs.Held.{field_in, gathered, taken_by, restored_by, words_ok, without_overrides}
 use Rattle.state_fields.proofs.Fields.{Whole}
-use Rattle.state_fields.proofs.Gathers.{nth, stored, gathered-whole, gathered-field, field_put, over-gathered}
+use Rattle.state_fields.proofs.Gathers.{nth, stored, gathered-whole, field_put, over-gathered}
 use Rattle.state_fields.proofs.Sound.{own-fields, gathered-sound}
 
 module _ (p : Profile) (a value : ℕ) where
