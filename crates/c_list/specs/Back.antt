@@ -1,6 +1,6 @@
 -- The state that a list of numbers makes. Every list makes one; only a state's own numbers are its image (`Images`).
 use Rattle.std.specs.Prelude.{ℕ, suc, ◌+◌, ◌*◌, ◌%◌, Bool, List, [], ◌∷◌, get_or, eqb}
-use Rattle.base.specs.Pick.{pick, whose}
+use Rattle.base.specs.Pick.{whose}
 use Rattle.base.specs.Volts.{pack_of}
 use Rattle.state_parts.specs.Edges.{all_flags}
 use Rattle.state_parts.specs.Numbers.{phase_number, ts_band_number}
