@@ -6,8 +6,7 @@ use base::refusal;
 use log_pairs::answer::Compared;
 
 // Reads two logs side by side.
-#[unsafe(no_mangle)]
-pub extern "C" fn cheukdane_compare(first: &[u8], second: &[u8]) -> ComparedLogs
+pub fn cheukdane_compare(first: &[u8], second: &[u8]) -> ComparedLogs
     ensures { ComparePromise first.now second.now result }
 {
     let compared = log_pairs::compare(first, second);

@@ -15,8 +15,7 @@ use state_parts::state::Model;
 use step_event::replaying;
 
 // Makes the image of a model before its power-on.
-#[unsafe(no_mangle)]
-pub extern "C" fn cheukdane_off(image: &mut [u8]) -> Answer
+pub fn cheukdane_off(image: &mut [u8]) -> Answer
     ensures { OffPromise image.old result image.new }
 {
     if c_image::save(image, Model::Off) {
@@ -68,8 +67,7 @@ fn stopped(got: Read, at: usize) -> Played
 }
 
 // Plays the record at a place of a log.
-#[unsafe(no_mangle)]
-pub extern "C" fn cheukdane_play(
+pub fn cheukdane_play(
     image: &mut [u8],
     log: &[u8],
     place: usize,
@@ -100,8 +98,7 @@ pub extern "C" fn cheukdane_play(
 }
 
 // One event outside a log.
-#[unsafe(no_mangle)]
-pub extern "C" fn cheukdane_event(
+pub fn cheukdane_event(
     image: &mut [u8],
     kind: u32,
     bytes: &[u8],

@@ -6,8 +6,7 @@ use c_image::Loaded;
 use step_event::replaying;
 
 // Plays every record of a log from a place on.
-#[unsafe(no_mangle)]
-pub extern "C" fn cheukdane_replay(image: &mut [u8], log: &[u8], place: usize) -> Replayed
+pub fn cheukdane_replay(image: &mut [u8], log: &[u8], place: usize) -> Replayed
     ensures { ReplayPromise image.old log.now place result image.new }
 {
     let loaded = c_image::load(&image[..]);

@@ -5,8 +5,7 @@ ghost use Rattle.c_calls.specs.PublicPromises.{RulesPromise};
 const RULES: u32 = 8;
 
 // The number of the rules by which this library judges a log.
-#[unsafe(no_mangle)]
-pub extern "C" fn cheukdane_rules() -> u32
+pub fn cheukdane_rules() -> u32
     ensures { RulesPromise result }
 {
     RULES

@@ -31,8 +31,7 @@ fn report_numbers(s: State) -> Report
 }
 
 // The report, the flags and STAT of the model as it stands.
-#[unsafe(no_mangle)]
-pub extern "C" fn cheukdane_report(image: &[u8], report: &mut [u8]) -> Answer
+pub fn cheukdane_report(image: &[u8], report: &mut [u8]) -> Answer
     ensures { ReportPromise image.now report.old result report.new }
 {
     let loaded = c_image::load(image);
@@ -74,8 +73,7 @@ fn byte_of(got: ReadAnswer) -> Byte
 }
 
 // A register's byte.
-#[unsafe(no_mangle)]
-pub extern "C" fn cheukdane_register(image: &[u8], address: u32) -> Byte
+pub fn cheukdane_register(image: &[u8], address: u32) -> Byte
     ensures { RegisterPromise image.now address result }
 {
     let loaded = c_image::load(image);

@@ -7,8 +7,7 @@ use base::written::Written;
 use c_event::Given;
 
 // Writes an event's record at the start of `out`.
-#[unsafe(no_mangle)]
-pub extern "C" fn cheukdane_write(kind: u32, bytes: &[u8], out: &mut [u8]) -> Put
+pub fn cheukdane_write(kind: u32, bytes: &[u8], out: &mut [u8]) -> Put
     ensures { WritePromise kind bytes.now out.old result out.new }
 {
     let got = c_event::event_of(kind, bytes);
