@@ -165,7 +165,7 @@ module _ (s : State) (ok : state_ok s ≡ true) (first : ℕ) (all front back : 
   unfolding written_run
   split_at =
       ap (with_kept s)
-      (ap (λ (n : ℕ). kept_run (byte_of all) first n p g (kept_of s)) given.long ∙ parted ∙ ap (stepwise _ back.count) in-front ∙ behind)
+      (ap (λ (n : ℕ). kept_run (byte_of all) first n p g (kept_of s)) given.long ∙ parted ∙ ap (stepwise (λ (u : Kept) (i : ℕ). register_taken p g (first + (j + i)) (value_in (byte_of all) (j + i)) u) back.count) in-front ∙ behind)
 
 pub runs-split : RunsSplit
 runs-split s first all front back ok given = split_at s ok first all front back given
