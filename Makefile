@@ -5,13 +5,14 @@ PREFIX ?= /usr/local
 
 # The programs, proved and linked: target/bin/runlog, target/bin/partlog.
 runlog partlog:
-	@scripts/need rt
-	@rt check $@
+	@scripts/build $@
 
 # Proves runlog, runs it on the paper's example, crates/runlog/stdin, and shows what it printed; that must be
 # crates/runlog/stdout.
 run: runlog
+	@target/bin/runlog <crates/runlog/stdin >target/log/runlog.stdout
 	@cat target/log/runlog.stdout
+	@cmp crates/runlog/stdout target/log/runlog.stdout
 
 test:
 	@scripts/test
@@ -30,8 +31,8 @@ bench:
 
 # Header, archive and programs, for x86-64.
 install: runlog partlog
-	@rt staticlib c_calls
+	@scripts/archive
 	install -D -m 644 include/cheukdane.h $(DESTDIR)$(PREFIX)/include/cheukdane.h
-	install -D -m 644 target/staticlib/libc_calls.a $(DESTDIR)$(PREFIX)/lib/libcheukdane.a
+	install -D -m 644 crates/cheukdane/out/libcheukdane.a $(DESTDIR)$(PREFIX)/lib/libcheukdane.a
 	install -D -m 755 target/bin/runlog $(DESTDIR)$(PREFIX)/bin/runlog
 	install -D -m 755 target/bin/partlog $(DESTDIR)$(PREFIX)/bin/partlog

@@ -1,5 +1,5 @@
 //! The program on the archive that CHEUKDANE_ARCHIVE names, or else the one that
-//! `rt staticlib` left: the stored tables pass, and one with a figure 200 bytes
+//! `rt lib` left: the stored tables pass, and one with a figure 200 bytes
 //! lower, or without it, doesn't.
 
 use std::env;
@@ -17,7 +17,7 @@ fn root() -> PathBuf {
 
 fn stack(table: &Path) -> Output {
     let archive = env::var_os("CHEUKDANE_ARCHIVE")
-        .map_or_else(|| root().join("target/staticlib/libc_calls.a"), PathBuf::from);
+        .map_or_else(|| root().join("crates/cheukdane/out/libcheukdane.a"), PathBuf::from);
     let mut command = Command::new(env!("CARGO_BIN_EXE_stack"));
     command.arg(archive).arg(table).output().expect("the program starts")
 }
