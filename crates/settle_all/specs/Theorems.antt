@@ -2,7 +2,7 @@
 use Rattle.std.specs.Prelude.{◌≤◌, ◌≡◌, Bool, true, false, not, ◌&&◌, ◌≢◌}
 use Rattle.settle_bands.specs.Joined.{pack_band}
 use Rattle.settle_bands.specs.Joining.{exchanged, exchanged_bands}
-use Rattle.settle_bands.specs.Holding.{bands_of, fresh_bands, held_bands}
+use Rattle.settle_bands.specs.Holding.{fresh_bands, held_bands}
 use Rattle.settle_bands.specs.Held.{Rests}
 use Rattle.settle_levels.specs.Clamps.{fault_of}
 use Rattle.settle_levels.specs.Comparators.{latches_of}
