@@ -1,5 +1,5 @@
 -- 01, "One observation, in order": "reaching its period expires it .. and it rests until service or a reset zeroes it"; "a period 0 counts nothing".
-use Rattle.std.specs.Prelude.{ℕ, ◌*◌, Bool, not, ◌&&◌, leb, eqb}
+use Rattle.std.specs.Prelude.{◌*◌, Bool, not, ◌&&◌, leb, eqb}
 use Rattle.state_parts.specs.declared.profile.Profile.{Profile}
 use Rattle.state_parts.specs.declared.watchdog.Watchdog.{Watchdog}
 
