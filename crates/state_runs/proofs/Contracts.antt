@@ -9,7 +9,7 @@ use Rattle.base.proofs.Answers.{refusal-one}
 use Rattle.base.proofs.Outcomes.{contract-settles}
 use Rattle.state_parts.specs.declared.state.State.{State}
 use Rattle.state_runs.specs.PublicPromises.{OneOutcome}
-use Rattle.state_runs.specs.Runs.{kept_of, with_kept, run_told}
+use Rattle.state_runs.specs.Runs.{kept_of, run_told}
 use Rattle.state_runs.specs.declared.registers.Kept.{Kept}
 use Rattle.state_runs.specs.declared.run.RunAnswer.TheVariants.{Taken, Refused}
 

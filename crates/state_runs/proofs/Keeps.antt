@@ -1,27 +1,26 @@
 -- A run that isn't refused keeps a state holding what it may.
-use Prim.Native.Nat.{ℕ, ◌+◌, ◌-◌, ◌≤◌, ◌<◌}
+use Prim.Native.Nat.{ℕ, ◌+◌, ◌-◌, ◌<◌}
 use mathlib.Core.Path.{◌≡◌, refl, sym, ap, subst, ◌∙◌}
-use mathlib.Core.Bool.{Bool, true, false, not, ◌&&◌, ◌||◌}
+use mathlib.Core.Bool.{Bool, true, false, not, ◌&&◌}
 use native.Mathlib.Omega.{arith}
-use lib.Dec.{leb, ltb, eqb}
-use borrow.Author.Tests.{le-leb, lt-ltb, eqb-true, not-false, not-true}
+use lib.Dec.{leb, eqb}
+use borrow.Author.Tests.{le-leb, lt-ltb, eqb-true, not-false}
 use Rattle.base.specs.Pick.{pick}
-use Rattle.base.specs.Told.{Told, accepted, refused}
+use Rattle.base.specs.Told.{accepted, refused}
 use Rattle.log_raw.specs.Raw.{Raw, byte_of, has_spelling}
-use Rattle.state_fields.specs.Held.{field_in, taken_by}
+use Rattle.state_fields.specs.Held.{field_in}
 use Rattle.state_fields.proofs.Taken.{taken-sound}
 use Rattle.state_parts.specs.declared.profile.Profile.{Profile}
 use Rattle.state_parts.specs.declared.registers.Registers.{Registers}
-use Rattle.state_parts.specs.declared.settings.Settings.{Settings}
 use Rattle.state_parts.specs.declared.state.State.{State}
 use Rattle.state_registers.specs.Writes.{count_taken, recounted}
 use Rattle.state_registers.proofs.Keeps.{pick-passes, Parts, parts-apart, parts_whole, fsw-written, recount-passes, some-count}
 use Rattle.state_settings.specs.Kept.{settings_ok}
-use Rattle.state_table.specs.Rows.{map_size, fsw, cell_pin, digit_of, frequency_ok}
-use Rattle.state_valid.specs.Holds.{registers_ok, state_ok}
+use Rattle.state_table.specs.Rows.{fsw, cell_pin, digit_of, frequency_ok}
+use Rattle.state_valid.specs.Holds.{state_ok}
 use Rattle.state_valid.proofs.Bounds.{ProfileBounds, profile-bounds}
 use Rattle.state_valid.proofs.Wholes.{Holding, apart, whole}
-use Rattle.state_runs.specs.Bytes.{value_in, stepwise, is_written, written_code}
+use Rattle.state_runs.specs.Bytes.{value_in, is_written, written_code}
 use Rattle.state_runs.specs.Registers.{settings_taken, bad_register, register_taken}
 use Rattle.state_runs.specs.Runs.{outside, halves, illegal_frequency, bad_run, kept_run, kept_of, written_run, write_run_of}
 use Rattle.state_runs.specs.declared.registers.Kept.{Kept}

@@ -1,7 +1,7 @@
 -- A value that a setting can't hold: the test over a run's registers and their fields finds one exactly if there is one.
-use Prim.Native.Nat.{ℕ, zero, suc, ◌+◌, ◌-◌, ◌*◌, ◌%◌, ◌≤◌, ◌<◌}
+use Prim.Native.Nat.{ℕ, zero, suc, ◌+◌, ◌-◌, ◌%◌, ◌<◌}
 use mathlib.Core.Path.{◌≡◌, refl, sym, ap, subst, ◌∙◌}
-use mathlib.Core.Bool.{Bool, true, false, ◌&&◌, ◌||◌, false≢true}
+use mathlib.Core.Bool.{Bool, true, false, ◌||◌, false≢true}
 use mathlib.Core.List.{List, [], ◌∷◌}
 use native.Mathlib.Nat.{not-suc-le-zero, mod-eq_of_lt}
 use native.Mathlib.Omega.{arith}
@@ -14,7 +14,7 @@ use Rattle.state_parts.specs.declared.profile.Profile.{Profile}
 use Rattle.state_table.specs.Rows.{Field, fields, fields_of, over, digit_of}
 use Rattle.state_table.specs.Packed.{no_field, field_at}
 use Rattle.state_table.proofs.Tested.{long}
-use Rattle.state_runs.specs.Bytes.{value_in, stepwise, is_written, written_code}
+use Rattle.state_runs.specs.Bytes.{value_in, is_written, written_code}
 use Rattle.state_runs.specs.Registers.{bad_by, bad_register}
 use Rattle.state_runs.specs.Runs.{bad_run}
 use Rattle.state_runs.proofs.Steps.{none-meets, some-meets}

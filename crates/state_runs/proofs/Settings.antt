@@ -1,7 +1,7 @@
 -- A register's settings that are written: where no field's value is one that its setting can't hold, the settings hold what they may.
-use Prim.Native.Nat.{ℕ, ◌+◌, ◌-◌, ◌*◌, ◌^◌, ◌≤◌, ◌<◌}
-use mathlib.Core.Path.{◌≡◌, refl, sym, ap, subst, ◌∙◌}
-use mathlib.Core.Bool.{Bool, true, false, not, ◌&&◌, ◌||◌, false≢true}
+use Prim.Native.Nat.{ℕ, ◌+◌, ◌-◌, ◌*◌, ◌^◌, ◌<◌}
+use mathlib.Core.Path.{◌≡◌, refl, sym, ap, ◌∙◌}
+use mathlib.Core.Bool.{Bool, true, false, ◌||◌, false≢true}
 use mathlib.Core.List.{List, [], ◌∷◌}
 use native.Mathlib.Nat.{mod-one}
 use native.Mathlib.Omega.{arith}
@@ -12,7 +12,7 @@ use Rattle.base.proofs.Tests.{and-iff}
 use Rattle.state_parts.specs.declared.profile.Profile.{Profile}
 use Rattle.state_parts.specs.declared.settings.Settings.{Settings}
 use Rattle.state_settings.specs.Kept.{settings_ok}
-use Rattle.state_settings.specs.Numbered.{held_of, setting_numbers, store_of}
+use Rattle.state_settings.specs.Numbered.{held_of, setting_numbers}
 use Rattle.state_settings.specs.Ranges.{last_setting, ranges, range_of, may_hold}
 use Rattle.state_settings.proofs.Steps.{at_most}
 use Rattle.state_settings.proofs.Stores.{store-passes, each-may}

@@ -1,11 +1,9 @@
 -- 02, R-3: what one register of a run takes. "01's start values, limits and watchdog stand, other fields are only stored."
 use Rattle.std.specs.Prelude.{ℕ, ◌-◌, ◌*◌, ◌^◌, Bool, false, not, ◌||◌, eqb}
 use Rattle.base.specs.Pick.{pick}
-use Rattle.state_parts.specs.With.{with_settings, with_registers}
 use Rattle.state_parts.specs.declared.profile.Profile.{Profile}
 use Rattle.state_parts.specs.declared.registers.Registers.{Registers}
 use Rattle.state_parts.specs.declared.settings.Settings.{Settings}
-use Rattle.state_parts.specs.declared.state.State.{State}
 use Rattle.state_settings.specs.Numbered.{store_of}
 use Rattle.state_settings.specs.Ranges.{may_hold}
 use Rattle.state_table.specs.Rows.{Field, fields_of, over, digit_of, cell_pin}
