@@ -3,7 +3,7 @@ use Rattle.std.specs.Prelude.{ℕ, ◌+◌, ◌-◌, ◌*◌, ◌/◌, ◌%◌, 
 use Rattle.base.specs.Pick.{pick, bit_of}
 use Rattle.base.specs.Refusals.{refusal_number}
 use Rattle.base.specs.Told.{Told, accepted, refused}
-use Rattle.state_table.specs.Rows.{Field, fields, fields_of, map_size, over, shifted}
+use Rattle.state_table.specs.Rows.{Field, fields_of, map_size, over, shifted}
 use Rattle.state_table.specs.Packed.{upper_half}
 use Rattle.state_table.specs.declared.Access.{Access}
 use Rattle.state_table.specs.declared.Access.TheVariants.{Reserved, Fixed, Status, Flag, Stored, Setting, Mask, Counted, Pin, Acts}
