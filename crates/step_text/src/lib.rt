@@ -80,6 +80,7 @@ fn told(put: Written, walk: Walk, over: bool) -> Print
 }
 
 // The next page of what is printed of a log, from a walk on.
+#[tactic(auto, using(crate::proofs::Longs::long_text, crate::proofs::Longs::long_walk, crate::proofs::Longs::long_over, crate::proofs::Longs::long_short))]
 pub fn print(out: &mut [u8], log: &[u8], from: Walk) -> Print
     ensures { PrintPromise log.now from out.old result out.new }
 {

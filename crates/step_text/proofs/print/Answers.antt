@@ -12,17 +12,11 @@ use Rattle.step_text.specs.Prints.{next_text, passed_text, text_of_page, told_by
 use Rattle.step_text.proofs.Sizes.{end_short}
 use Rattle.step_text.proofs.print.Goals as goal
 
-pub returns-then-log-gt65536 : goal.returns-then-log-gt65536
-unfolding next_text
-returns-then-log-gt65536 c =
-    let a = c.args in
-    simp (lt-ltb 65536 (length a.log.now) c.if-log-gt65536.true) (c.told.ensures ∙ ap (λ t. told_by t a.from true) c.end.ensures.0, c.end.ensures.1, omega (arith, end_short 0 13 0 (omega arith) (omega arith)))
-
 pub returns : goal.returns
 unfolding next_text page_text
 returns c =
     let a = c.args in
-    simp (le-ltb 65536 (length a.log.now) c.if-log-gt65536.false) (
+    simp (le-ltb 65536 (length a.log.now) (omega arith)) (
       c.told-2.ensures ∙ (λ i. told_by (c.page-put.ensures.0 i) c.turn-p.result.walk (c.is_over.ensures i)) ∙ ap (λ (q : Passed). printed_in (text_of_page q) a.out.now) c.turn-p.ensures.0,
       c.page-put.ensures.1 ∙ ap (λ (q : Passed). put (passed_text q) a.out.now) c.turn-p.ensures.0,
       rw (← c.turn-p.ensures.0) c.page-put.ensures.2,
