@@ -1,6 +1,6 @@
 -- What the calls that move a model ask, over plain values.
 use Prim.Native.Nat.{ℕ}
-use mathlib.Core.Path.{◌≡◌, sym, ◌∙◌}
+use mathlib.Core.Path.{◌≡◌, refl, sym, ◌∙◌}
 use mathlib.Core.Bool.{Bool, true, false}
 use mathlib.Core.List.{List, [], ◌∷◌}
 use mathlib.Core.Logic.{⊎_elim}
@@ -47,13 +47,13 @@ module _ (image log : List ℕ) (place : ℕ) (shown : List ℕ) where
 
   module _ (m : Model) (told : accepted m ≡ ready_of image (length shown) 28) (got : Read) (er : read_told got ≡ record_at kinds log place) where
     -- an answer that is no record
-    pub stopped-there : (p : Played) → OneOf (1 ∷ 2 ∷ []) (tag_of read-type.the_type got) → p ≡ stopped_of (read_told got) place → both p image shown ≡ play_of image log place shown
+    pub stopped-there : (p : Played) → ((e : Event) (next : ℕ) → got ≡ read.Record e next → ⊥) → p ≡ stopped_of (read_told got) place → both p image shown ≡ play_of image log place shown
     unfolding play_of
     stopped-there p h ep = go got h er ep
       where
-        go : (x : Read) → OneOf (1 ∷ 2 ∷ []) (tag_of read-type.the_type x) → read_told x ≡ record_at kinds log place → p ≡ stopped_of (read_told x) place
+        go : (x : Read) → ((e : Event) (next : ℕ) → x ≡ read.Record e next → ⊥) → read_told x ≡ record_at kinds log place → p ≡ stopped_of (read_told x) place
             → both p image shown ≡ play_ready (ready_of image (length shown) 28) (record_at kinds log place) image place shown
-        go (read.Record e next) h er ep = absurd (let z : ⊥ = ⊎_elim (λ q. omega (arith, q)) (λ q. omega (arith, q)) h in z)
+        go (read.Record e next) h er ep = absurd (h e next refl)
         go (read.Refused r at) h er ep = rw (← told, ← er, ep)
         go read.End h er ep = rw (← told, ← er, ep)
 
