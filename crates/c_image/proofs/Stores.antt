@@ -39,14 +39,14 @@ both-put image a b ns first l n ea eb =
     ∙ sets-whole (bytes_of (first ∷ ns)) image (omega (arith, length-bytes (first ∷ ns)))
 
 -- the words of a part
-pub off-is : (bytes first : List ℕ) → first ≡ words_in 1 bytes → get_or first 0 0 ≡ 0 → Off ≡ model_from bytes
+pub off_is : (bytes first : List ℕ) → first ≡ words_in 1 bytes → get_or first 0 0 ≡ 0 → Off ≡ model_from bytes
 unfolding model_from words_in
-off-is bytes first e z = let w : word_at bytes 0 ≡ 0 = sym (ap (λ l. get_or l 0 0) e) ∙ z in rw w
+off_is bytes first e z = let w : word_at bytes 0 ≡ 0 = sym (ap (λ l. get_or l 0 0) e) ∙ z in rw w
 
-pub on-is : (bytes first all : List ℕ) (s : State) → length bytes ≡ image_length → first ≡ words_in 1 bytes → (get_or first 0 0 ≡ 0 → ⊥)
+pub on_is : (bytes first all : List ℕ) (s : State) → length bytes ≡ image_length → first ≡ words_in 1 bytes → (get_or first 0 0 ≡ 0 → ⊥)
     → all ≡ words_in state_count (take (length bytes - 4) (drop 4 bytes)) → s ≡ state_from all → On s ≡ model_from bytes
 unfolding model_from words_in
-on-is bytes first all s l e nz ea es =
+on_is bytes first all s l e nz ea es =
     let w : word_at bytes 0 ≡ get_or first 0 0 = sym (ap (λ t. get_or t 0 0) e) in
     rw (es, ea, take_all (length bytes - 4) (drop 4 bytes) (rw length-drop (omega arith)), w, ne_eqb (get_or first 0 0) 0 nz)
 

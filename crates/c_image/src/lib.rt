@@ -62,6 +62,7 @@ pub fn save(image: &mut [u8], m: Model) -> bool
 }
 
 // The model that bytes of an image's length would be the image of.
+#[tactic(auto, using(crate::proofs::Stores::off_is, crate::proofs::Stores::on_is))]
 fn model_from(image: &[u8]) -> Model
     requires { length image.now ≡ image_length }
     ensures { result ≡ model_from image.now }
