@@ -14,7 +14,6 @@ use Rattle.state_registers.specs.Resets.{reset_of}
 use Rattle.state_registers.specs.Writes.{write_of}
 use Rattle.state_runs.specs.Runs.{write_run_of, resets, serves}
 use Rattle.step_kinds.specs.Changes.{Changed, changed}
-use Rattle.step_kinds.specs.declared.change.Way.{Way}
 use Rattle.step_kinds.specs.declared.change.Way.TheVariants.{Plain, Reads, Powers}
 
 -- "1 power-on": all that is held begins anew

@@ -1,6 +1,5 @@
 -- `acted`: a reset, or a service.
-use Prim.Native.Nat.{ℕ}
-use mathlib.Core.Path.{◌≡◌, sym, ap, ◌∙◌}
+use mathlib.Core.Path.{sym, ap, ◌∙◌}
 use mathlib.Core.Bool.{Bool}
 use Rattle.base.specs.Pick.{pick}
 use Rattle.log_raw.specs.Struct.{raw_of}
