@@ -1,0 +1,7 @@
+-- `units` meets its contract.
+use Rattle.step_event.specs.Clock.{units_of}
+use Rattle.step_event.proofs.clock.units.Goals as goal
+
+pub returns : goal.returns
+unfolding units_of
+returns c = simp (c.number.ensures, c.regulated-slow.ensures)
