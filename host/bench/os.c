@@ -1,5 +1,5 @@
 /* What the programs of crates/ ask of the kit's `os` in C, where the kit's own archive, x86-64 code, can't be linked.
- * The kit's libs/os/src/c.rt says what each answers. A slice comes as a pointer and a length. */
+ * The kit's rattle/os/src/c.rt says what each answers. A slice comes as a pointer and a length. */
 #include <errno.h>
 #include <fcntl.h>
 #include <stddef.h>
