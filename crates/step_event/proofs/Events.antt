@@ -1,6 +1,6 @@
 -- What the step's functions ask, over plain values.
 use Rattle.std.proofs.Common.{◌≡◌, Bool, true, false, sym, ap, ◌∙◌}
-use Rattle.base.specs.Told.{Told, refused}
+use Rattle.base.specs.Told.{refused}
 use Rattle.base.specs.Refusals.{refusal_number}
 use Rattle.base.specs.declared.refusal.Refusal.{Refusal}
 use Rattle.state_parts.specs.declared.state.State.{State}
@@ -9,8 +9,8 @@ use Rattle.state_parts.specs.declared.state.Model.TheVariants.{On}
 use Rattle.state_valid.specs.Holds.{state_ok}
 use Rattle.step_turns.specs.declared.turn.Turn.{Turn}
 use Rattle.step_flags.specs.declared.between.Seen.{Seen}
-use Rattle.step_kinds.specs.Answers.{Outcome, refused_with}
-use Rattle.step_kinds.specs.Changes.{Changed, change_told}
+use Rattle.step_kinds.specs.Answers.{refused_with}
+use Rattle.step_kinds.specs.Changes.{change_told}
 use Rattle.step_kinds.specs.Finish.{finish_of}
 use Rattle.step_kinds.specs.declared.change.Change.{Change}
 use Rattle.step_kinds.specs.declared.change.Change.TheVariants.{Made, Refused}

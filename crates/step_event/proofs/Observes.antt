@@ -1,5 +1,5 @@
 -- An accepted observation of a state that holds what it may leaves one that is ready to settle.
-use Rattle.std.proofs.Common.{◌≡◌, ℕ, zero, suc, ◌+◌, ◌*◌, ◌≤◌, min, Bool, true, false, ◌||◌, eqb, ap, ◌∙◌, arith, ne_eqb, le-leb}
+use Rattle.std.proofs.Common.{◌≡◌, ℕ, zero, suc, ◌+◌, ◌*◌, ◌≤◌, min, Bool, true, false, ap, ◌∙◌, arith, ne_eqb, le-leb}
 use Rattle.base.specs.Stamps.{elapsed_of}
 use Rattle.state_parts.specs.Stages.{in_trickle, in_precharge, in_fast}
 use Rattle.state_parts.specs.declared.cycle.Cycle.{Cycle}

@@ -1,5 +1,5 @@
 -- Settling a state whose parts hold what they may, whichever stage is held, gives one that holds what it may.
-use Rattle.std.proofs.Common.{◌≡◌, ℕ, zero, suc, ◌+◌, ◌*◌, ◌<◌, Bool, true, false, ◌||◌, eqb, leb, refl, ap, ◌∙◌, arith, lt-ltb, ne_eqb, le-leb, leb-false}
+use Rattle.std.proofs.Common.{◌≡◌, ℕ, zero, suc, ◌+◌, ◌*◌, ◌<◌, Bool, true, false, ◌||◌, leb, refl, ap, ◌∙◌, arith, lt-ltb, ne_eqb, le-leb, leb-false}
 use mathlib.Core.Bool.{and-true, and-false}
 use Rattle.base.specs.Pick.{pick}
 use Rattle.base.proofs.Tests.{neither}

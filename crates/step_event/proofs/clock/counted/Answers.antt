@@ -1,4 +1,4 @@
--- `counted` meets its contract.
+-- `counted`: the count with the ms, or the period.
 use Rattle.step_event.specs.Clock.{counted_of}
 use Rattle.step_event.proofs.Clocks.{same_count}
 use Rattle.state_valid.proofs.Bounds.{profile-bounds}

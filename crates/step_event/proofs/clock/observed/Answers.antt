@@ -1,4 +1,4 @@
--- `observed` meets its contract.
+-- `observed`: each part by its own function, on a state that holds what it may.
 use Rattle.step_event.proofs.Clocks.{few-units}
 use Rattle.state_valid.proofs.Wholes.{apart}
 use Rattle.step_event.specs.Clock.{observed_of}

@@ -1,4 +1,4 @@
--- `times` meets its contract.
+-- `times`: each stage's time by `added`.
 use Rattle.state_valid.proofs.Bounds.{profile-bounds, stages-apart}
 use Rattle.step_event.specs.Clock.{times_of}
 use Rattle.step_event.proofs.clock.times.Goals as goal

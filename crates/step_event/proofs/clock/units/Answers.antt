@@ -1,4 +1,4 @@
--- `units` meets its contract.
+-- `units`: one for each ms, or two.
 use Rattle.step_event.specs.Clock.{units_of}
 use Rattle.step_event.proofs.clock.units.Goals as goal
 

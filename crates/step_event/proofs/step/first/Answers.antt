@@ -1,4 +1,4 @@
--- `first` meets its contract.
+-- `first`: a power-on, or the refusal of the turn.
 use Rattle.step_event.specs.Steps.{first_of}
 use Rattle.step_event.proofs.step.first.Goals as goal
 

@@ -1,4 +1,4 @@
--- `model_ok` meets its contract.
+-- `model_ok`: off, or by the state.
 use Rattle.step_event.specs.Steps.{model_ok}
 use Rattle.step_event.proofs.step.model_ok.Goals as goal
 

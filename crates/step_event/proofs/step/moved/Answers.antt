@@ -1,4 +1,4 @@
--- `moved` meets its contract.
+-- `moved`: a power-on, what follows it, or the refusal of the turn.
 use Rattle.step_event.specs.Steps.{moved_of}
 use Rattle.step_event.proofs.step.moved.Goals as goal
 

@@ -1,4 +1,4 @@
--- `observe` meets its contract.
+-- `observe`: a stamp too far ahead, or the state observed.
 use Rattle.std.proofs.Common.{le-ltb, lt-ltb}
 use Rattle.step_event.specs.Steps.{observe_of}
 use Rattle.step_event.proofs.step.observe.Goals as goal

@@ -1,4 +1,4 @@
--- `seen_on` meets its contract.
+-- `seen_on`: off, or what is seen of the state.
 use Rattle.step_event.specs.Steps.{seen_on}
 use Rattle.step_event.proofs.step.seen_on.Goals as goal
 

@@ -1,4 +1,4 @@
--- `step_known` meets its contract.
+-- `step_known`: the event's turn, and what it comes to.
 use Rattle.step_event.specs.Steps.{step_of}
 use Rattle.step_event.proofs.step.step_known.Goals as goal
 
