@@ -16,7 +16,6 @@ use Rattle.report_text.specs.Text.{end_text, low32}
 use Rattle.step_event.specs.Walks.{WalkTold, met, unreadable, end, after_read, walk_of}
 use Rattle.step_event.specs.Pages.{StopTold, Passed, passed_by, page_of, end_by}
 use Rattle.step_event.specs.Pages as page
-use Rattle.step_event.specs.declared.walking.Met.{Met}
 use Rattle.step_event.specs.declared.walking.Walk.{Walk}
 use Rattle.step_event.proofs.Moves.{walk-moves}
 use Rattle.step_text.specs.Prints.{last_text}

@@ -1,15 +1,12 @@
 -- `print` meets its contract: an input that is too long by itself, else by its page.
 use mathlib.Core.Path.{ap, ◌∙◌}
-use mathlib.Core.Bool.{true}
 use native.Mathlib.Omega.{arith}
 use lib.ListN.{length}
-use borrow.Author.Rules.{rules}
-use borrow.Author.Tests.{lt-ltb, le-ltb}
+use borrow.Author.Tests.{le-ltb}
 use Rattle.base.specs.Writing.{put}
 use Rattle.report_pages.specs.Text.{page_text}
 use Rattle.step_event.specs.Pages.{Passed}
 use Rattle.step_text.specs.Prints.{next_text, passed_text, text_of_page, told_by, printed_in}
-use Rattle.step_text.proofs.Sizes.{end_short}
 use Rattle.step_text.proofs.print.Goals as goal
 
 pub returns : goal.returns
