@@ -2,11 +2,7 @@
 use Prim.Native.Nat.{ℕ}
 use mathlib.Core.Path.{◌≡◌, refl, sym, ◌∙◌}
 use mathlib.Core.Bool.{Bool, true, false}
-use mathlib.Core.List.{List, [], ◌∷◌}
-use mathlib.Core.Logic.{⊎_elim}
-use native.Mathlib.Omega.{arith}
-use types.Run.{OneOf}
-use denote.Enum.Declared.{tag_of}
+use mathlib.Core.List.{List}
 use lib.ListN.{length}
 use Rattle.base.specs.Refusals.{refusal_number}
 use Rattle.base.specs.Told.{accepted, refused}
@@ -19,7 +15,6 @@ use Rattle.log_event.specs.declared.Event.{Event}
 use Rattle.log_record.specs.Records.{read_told, record_at}
 use Rattle.log_record.specs.declared.answer.Read.{Read}
 use Rattle.log_record.specs.declared.answer.Read.TheVariants as read
-use Rattle.log_record.specs.contracts.answer.Read as read-type
 use Rattle.step_event.specs.Steps.{step_of}
 use Rattle.c_image.specs.Images.{is_long, saved_in}
 use Rattle.c_event.specs.Given.{given_told, given_of}

@@ -67,12 +67,7 @@ fn stopped(got: Read, at: usize) -> Played
 }
 
 // Plays the record at a place of a log.
-pub fn cheukdane_play(
-    image: &mut [u8],
-    log: &[u8],
-    place: usize,
-    shown: &mut [u8],
-) -> Played
+pub fn cheukdane_play(image: &mut [u8], log: &[u8], place: usize, shown: &mut [u8]) -> Played
     ensures { PlayPromise image.old log.now place shown.old result image.new shown.new }
 {
     let loaded = c_image::load(&image[..]);
@@ -98,12 +93,7 @@ pub fn cheukdane_play(
 }
 
 // One event outside a log.
-pub fn cheukdane_event(
-    image: &mut [u8],
-    kind: u32,
-    bytes: &[u8],
-    shown: &mut [u8],
-) -> Answer
+pub fn cheukdane_event(image: &mut [u8], kind: u32, bytes: &[u8], shown: &mut [u8]) -> Answer
     ensures { EventPromise image.old kind bytes.now shown.old result image.new shown.new }
 {
     let loaded = c_image::load(&image[..]);
