@@ -1,5 +1,5 @@
 -- `run` meets its contract: at each turn the pages that are left have the last among them.
-use Prim.Native.Nat.{ℕ, suc, ◌+◌, ◌-◌}
+use Prim.Native.Nat.{suc, ◌+◌, ◌-◌}
 use mathlib.Core.Path.{◌≡◌, sym, ap, ◌∙◌}
 use native.Mathlib.Omega.{arith}
 use Rattle.log_number.specs.Promises.{Bytes}
