@@ -45,7 +45,7 @@ use Rattle.laws_account.specs.History.{Run, powered, ◌▸◌, since}
 use Rattle.laws_third.specs.Editions.{KeptAt}
 use Rattle.laws_account.specs.Held.{profile_of, sample_of, elapsed, field_at}
 use Rattle.laws_account.specs.Bands.{Thermistor, first_ts, second_ts, fresh_at, cold_at, hot_at, cool_at, warm_at, ts_band_at}
-use Rattle.laws_account.specs.Refused.{none, refusal_in, next_of as nextPast}
+use Rattle.laws_account.specs.Refused.{none, refusal_in, next_of as next_past}
 use Rattle.laws_third.proofs.Editions.{differs}
 use Rattle.laws_demands.specs.Printed.{line_by, lines_by}
 use Rattle.laws_demands.specs.Editions.{opening, KeepsNothing, seen_twice, any_pack, LinesOnEachSide}
@@ -71,7 +71,7 @@ none-back first_ts q = differs first_ts back q refl
 none-back second_ts q = differs second_ts back q refl
 
 nothing-kept : KeepsNothing none (opening any_pack 2 ∷ seen_twice 75320 55000)
-unfolding nextPast refusal_in turn_of profile_in_range edition_in_range sample_in_range two_in_range elapsed sample_of
+unfolding next_past refusal_in turn_of profile_in_range edition_in_range sample_in_range two_in_range elapsed sample_of
 nothing-kept = (λ k q. q, (none-cold, (none-back, tt)))
 
 pub lines-on-each-side : LinesOnEachSide
