@@ -82,11 +82,11 @@ module _ (k : Thermistor) where
 -- "If either is cold the band is cold, else if either is hot it is hot; cool beside warm counts as a new band, apart ..; otherwise the one that isn't normal decides.": a table
 -- with a row to the first thermistor's band and a column to the second's, which are normal, cold, hot, cool and warm
 abbrev pub row_of : Band → Band → Band → Band → Band → TsBand → Band
-row_of normal cold hot cool warm ts.Normal = normal
-row_of normal cold hot cool warm ts.Cold = cold
-row_of normal cold hot cool warm ts.Hot = hot
-row_of normal cold hot cool warm ts.Cool = cool
-row_of normal cold hot cool warm ts.Warm = warm
+row_of normal _ _ _ _ ts.Normal = normal
+row_of _ cold _ _ _ ts.Cold = cold
+row_of _ _ hot _ _ ts.Hot = hot
+row_of _ _ _ cool _ ts.Cool = cool
+row_of _ _ _ _ warm ts.Warm = warm
 
 abbrev pub join_table : TsBand → TsBand → Band
 join_table ts.Normal b = row_of Normal Cold Hot Cool Warm b
