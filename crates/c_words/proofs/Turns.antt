@@ -1,11 +1,13 @@
 -- What the loops of `read` and `write` ask: one word more.
 use Prim.Native.Nat.{ℕ, suc, ◌+◌, ◌-◌, ◌*◌, ◌≤◌, ◌<◌}
-use mathlib.Core.Path.{◌≡◌, ◌∙◌}
-use mathlib.Core.List.{List, [], ◌∷◌}
+use mathlib.Core.Path.{◌≡◌, sym, ap, ◌∙◌}
+use mathlib.Core.List.{List, [], ◌∷◌, ◌++◌, append_assoc}
 use native.Mathlib.Omega.{arith}
 use native.Mathlib.Numerals.{add-one}
-use lib.ListN.{length, drop, get_or, set, drop_of_length-le}
-use lib.Seq.{sets, drop-cons, drop-drop}
+use lib.ListN.{length, take, drop, get_or, set, drop_of_length-le}
+use lib.Seq.{sets, sets-eq, drop-cons, drop-drop}
+use borrow.Rule.Slice.PartMut.{put_mid}
+use Rattle.base.proofs.Puts.{sets-append}
 use Rattle.c_words.specs.Words.{word_bytes, bytes_of, word_at, words_in}
 use Rattle.c_words.proofs.WordLaws.{length-words, sets-whole, word-drop}
 
@@ -32,17 +34,20 @@ read_none bytes all first i h e =
     let y : length first - 0 ≡ length first = omega arith in
     (rw (z, y) at e) ∙ sets-whole (words_in (length first) bytes) first (length-words (length first) bytes)
 
--- writing: one word of four bytes
-pub write-more : (out all four : List ℕ) (i : ℕ) → i < length all → four ≡ word_bytes (get_or all i 0)
-    → sets (set (set (set (set out (i * 4) (get_or four 0 0)) (i * 4 + 1) (get_or four 1 0)) (i * 4 + 2) (get_or four 2 0)) (i * 4 + 3) (get_or four 3 0)) ((i + 1) * 4) (bytes_of (drop (i + 1) all))
-    ≡ sets out (i * 4) (bytes_of (drop i all))
+-- writing: the four bytes of one word are laid over the next four places
+laid : (out four : List ℕ) (at k : ℕ) → at + 4 ≤ length out → k ≡ 4 → length four ≡ 4 → put_mid at k out four ≡ sets out at four
+laid out four at k h ek long =
+    let e : at + k ≡ at + length four = omega arith in
+    rw (drop-drop k at out, e) (sym (sets-eq four out at (omega arith) ∙ append_assoc (take at out) four (drop (at + length four) out)))
+
+pub write-more : (out all four : List ℕ) (i k : ℕ) → i < length all → i * 4 + 4 ≤ length out → k ≡ 4 → four ≡ word_bytes (get_or all i 0)
+    → sets (put_mid (i * 4) k out four) ((i + 1) * 4) (bytes_of (drop (i + 1) all)) ≡ sets out (i * 4) (bytes_of (drop i all))
 unfolding bytes_of
-write-more out all four i h e =
-    let a : i * 4 + 1 ≡ suc (i * 4) = omega arith in
-    let b : i * 4 + 2 ≡ suc (suc (i * 4)) = omega arith in
-    let c : i * 4 + 3 ≡ suc (suc (suc (i * 4))) = omega arith in
-    let d : (i + 1) * 4 ≡ suc (suc (suc (suc (i * 4)))) = omega arith in
-    rw (e, d, a, b, c, drop-cons all i 0 h, add-one)
+write-more out all four i k h room ek e =
+    let long : length four ≡ 4 = ap length e in
+    let next : (i + 1) * 4 ≡ i * 4 + length four = omega arith in
+    rw (laid out four (i * 4) k room ek long, next, drop-cons all i 0 h, add-one)
+    (sym (sets-append four (bytes_of (drop (suc i) all)) out (i * 4)) ∙ ap (λ bs. sets out (i * 4) (bs ++ bytes_of (drop (suc i) all))) e)
 
 pub write-none : (all : List ℕ) (i : ℕ) → length all ≤ i → bytes_of (drop i all) ≡ []
 unfolding bytes_of

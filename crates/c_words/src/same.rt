@@ -12,10 +12,8 @@ pub fn same(all: &[u32], bytes: &[u8]) -> bool
         return false;
     }
     let mut r = true;
-    let mut i: usize = 0;
-    while i < all.len() {
-        r = r & (whole(bytes, i * 4) == all[i]);
-        i += 1;
+    for (i, n) in all.iter().enumerate() {
+        r &= whole(bytes, i * 4) == *n;
     }
     r
 }

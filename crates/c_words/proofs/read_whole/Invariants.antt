@@ -1,5 +1,4 @@
 -- `read_whole` meets its contract: what is stored and what is left to store come to all the words.
-use Prim.Native.Nat.{◌-◌, ◌≤◌}
 use mathlib.Core.Path.{◌≡◌}
 use lib.ListN.{length}
 use lib.Seq.{sets}
@@ -8,7 +7,4 @@ use Rattle.c_words.proofs.read_whole.Given as goal
 
 abbrev pub invariant-loop-i : goal.invariant-loop-i
 invariant-loop-i l =
-    (sets l.all l.i (to_read l.bytes (length l.initial.all) l.i) ≡ sets l.initial.all 0 (to_read l.bytes (length l.initial.all) 0)) × (length l.all ≡ length l.initial.all) × (l.i ≤ length l.initial.all)
-
-abbrev pub decreases-loop-i : goal.decreases-loop-i
-decreases-loop-i l = length l.initial.all - l.i
+    sets l.all l.i (to_read l.bytes (length l.initial.all) l.i) ≡ sets l.initial.all 0 (to_read l.bytes (length l.initial.all) 0)

@@ -2,7 +2,7 @@
 use Prim.Native.Nat.{◌≤◌, ◌<◌}
 use mathlib.Core.Path.{sym, ap, ◌∙◌}
 use native.Mathlib.Omega.{arith}
-use lib.ListN.{length, length-set}
+use lib.ListN.{length}
 use Rattle.base.specs.Writing.{wrote}
 use Rattle.base.proofs.Puts.{put-fits, put-short, written-fits, written-short}
 use Rattle.c_words.specs.Words.{bytes_of}
@@ -18,12 +18,14 @@ returns-then-out-all c =
 
 pub loop-i-preserved : goal.loop-i-preserved
 loop-i-preserved c =
-    let a = c.args in
-    (write-more c.loop-i.out a.all.now c.bytes_of-four.result c.loop-i.i (omega arith) c.bytes_of-four.ensures ∙ c.loop-i.invariant.0, simp length-set c.loop-i.invariant.1, omega arith)
+    let all = c.args.all.now in
+    let i = c.loop-i.i in
+    let n = length-bytes all in
+    write-more c.loop-i.out all _ i _ c.loop-i-test.true (omega arith) (omega arith) (c.copy_from_slice.ensures.after ∙ c.to_le_bytes.ensures) ∙ c.loop-i.invariant
 
 pub returns : goal.returns
 returns c =
     let a = c.args in
     let n = length-bytes a.all.now in
     let fits : length (bytes_of a.all.now) ≤ length a.out.now = omega arith in
-    (ap wrote (sym n) ∙ written-fits (bytes_of a.all.now) a.out.now fits, (rw (write-none a.all.now c.loop-i.i (omega arith)) at c.loop-i.invariant.0) ∙ put-fits (bytes_of a.all.now) a.out.now fits)
+    (ap wrote (sym n) ∙ written-fits (bytes_of a.all.now) a.out.now fits, (rw (write-none a.all.now c.loop-i.i (omega arith)) at c.loop-i.invariant) ∙ put-fits (bytes_of a.all.now) a.out.now fits)

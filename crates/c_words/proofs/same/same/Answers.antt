@@ -9,7 +9,7 @@ returns-then-bytes-all c = other-length _ _ c.if-bytes-all.true
 
 pub loop-i-preserved : goal.loop-i-preserved
 loop-i-preserved c =
-    (left-turn _ _ c.loop-i.i c.whole.result c.loop-i.r (λ i. omega (arith, c.type_inv.bytes i)) c.loop-i-test.true (omega (arith, c.type_inv.all c.loop-i.i)) (omega arith) c.whole.ensures ∙ c.loop-i.invariant.0, omega arith)
+    left-turn _ _ c.loop-i.i c.whole.result c.loop-i.r (λ i. omega (arith, c.type_inv.bytes i)) c.loop-i-test.true (omega (arith, c.type_inv.all c.loop-i.i)) (omega arith) c.whole.ensures ∙ c.loop-i.invariant
 
 pub returns : goal.returns
-returns c = left-none _ _ c.loop-i.i c.loop-i.r c.loop-i-test.false (omega arith) ∙ c.loop-i.invariant.0
+returns c = left-none _ _ c.loop-i.i c.loop-i.r c.loop-i-test.false (omega arith) ∙ c.loop-i.invariant
