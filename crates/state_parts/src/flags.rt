@@ -22,39 +22,41 @@ pub struct Edges {
 }
 
 // The edges' flags, as a number.
-pub fn number(e: Edges) -> u32
-    ensures { result ≡ flags_number e }
-{
-    let bit0 = bit(e.good);
-    let bit1 = bit(e.lost);
-    let bit2 = bit(e.iindpm);
-    let bit3 = bit(e.vindpm);
-    let bit4 = bit(e.thermal);
-    let bit5 = bit(e.expired);
-    let bit6 = bit(e.phase);
-    let bit7 = bit(e.band);
-    let bit8 = bit(e.inputover);
-    let bit9 = bit(e.shutdown);
-    let bit10 = bit(e.packover);
-    let bit11 = bit(e.limit);
-    bit0 + bit1 * 2
-        + bit2 * 4
-        + bit3 * 8
-        + bit4 * 16
-        + bit5 * 32
-        + bit6 * 64
-        + bit7 * 128
-        + bit8 * 256
-        + bit9 * 512
-        + bit10 * 1024
-        + bit11 * 2048
+impl From<Edges> for u32 {
+    ghost from_gives = { λ e n. n ≡ flags_number e };
+
+    fn from(e: Edges) -> u32 {
+        let bit0 = bit(e.good);
+        let bit1 = bit(e.lost);
+        let bit2 = bit(e.iindpm);
+        let bit3 = bit(e.vindpm);
+        let bit4 = bit(e.thermal);
+        let bit5 = bit(e.expired);
+        let bit6 = bit(e.phase);
+        let bit7 = bit(e.band);
+        let bit8 = bit(e.inputover);
+        let bit9 = bit(e.shutdown);
+        let bit10 = bit(e.packover);
+        let bit11 = bit(e.limit);
+        bit0 + bit1 * 2
+            + bit2 * 4
+            + bit3 * 8
+            + bit4 * 16
+            + bit5 * 32
+            + bit6 * 64
+            + bit7 * 128
+            + bit8 * 256
+            + bit9 * 512
+            + bit10 * 1024
+            + bit11 * 2048
+    }
 }
 
 // The held flags and an event's edges.
 pub fn merge(held: u32, edges: Edges) -> u32
     ensures { result ≡ merged held edges }
 {
-    let raised = number(edges);
+    let raised = u32::from(edges);
     held | raised
 }
 
@@ -62,6 +64,6 @@ pub fn merge(held: u32, edges: Edges) -> u32
 pub fn pulse(edges: Edges, masks: u32) -> bool
     ensures { result ≡ pulse_of edges masks }
 {
-    let raised = number(edges);
+    let raised = u32::from(edges);
     (raised | masks) != masks
 }

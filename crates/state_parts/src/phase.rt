@@ -3,7 +3,7 @@ ghost use Rattle.std.specs.Prelude.{◌≡◌};
 ghost use Rattle.state_parts.specs.Numbers.{phase_number};
 ghost use Rattle.state_parts.specs.Stages.{in_trickle, in_precharge, in_fast, charging};
 
-#[derive(Clone, Copy)]
+#[derive(Clone, Copy, PartialEq, Eq, Debug)]
 pub enum Phase {
     Idle,
     Trickle,
@@ -16,18 +16,20 @@ pub enum Phase {
 }
 
 // The paper's number of a phase.
-pub fn number(p: Phase) -> u32
-    ensures { result ≡ phase_number p }
-{
-    match p {
-        Phase::Idle => 0,
-        Phase::Trickle => 1,
-        Phase::Precharge => 2,
-        Phase::Fast => 3,
-        Phase::Taper => 4,
-        Phase::Done => 5,
-        Phase::Suspended => 6,
-        Phase::Fault => 7,
+impl From<Phase> for u32 {
+    ghost from_gives = { λ phase n. n ≡ phase_number phase };
+
+    fn from(phase: Phase) -> u32 {
+        match phase {
+            Phase::Idle => 0,
+            Phase::Trickle => 1,
+            Phase::Precharge => 2,
+            Phase::Fast => 3,
+            Phase::Taper => 4,
+            Phase::Done => 5,
+            Phase::Suspended => 6,
+            Phase::Fault => 7,
+        }
     }
 }
 
@@ -35,28 +37,29 @@ pub fn number(p: Phase) -> u32
 pub fn in_trickle(p: Phase) -> bool
     ensures { result ≡ in_trickle p }
 {
-    number(p) == 1
+    p == Phase::Trickle
 }
 
 // Whether a phase is in the precharge stage.
 pub fn in_precharge(p: Phase) -> bool
     ensures { result ≡ in_precharge p }
 {
-    number(p) == 2
+    p == Phase::Precharge
 }
 
 // Whether a phase is in the stage that fast and taper share.
 pub fn in_fast(p: Phase) -> bool
     ensures { result ≡ in_fast p }
 {
-    let n = number(p);
-    (n == 3) | (n == 4)
+    matches!(p, Phase::Fast | Phase::Taper)
 }
 
 // Whether a phase charges.
 pub fn charging(p: Phase) -> bool
     ensures { result ≡ charging p }
 {
-    let n = number(p);
-    (1 <= n) & (n <= 4)
+    matches!(
+        p,
+        Phase::Trickle | Phase::Precharge | Phase::Fast | Phase::Taper
+    )
 }

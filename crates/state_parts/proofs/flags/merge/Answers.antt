@@ -4,4 +4,4 @@ use Rattle.state_parts.proofs.flags.merge.Goals as goal
 
 pub returns : goal.returns
 unfolding merged
-returns c = rw c.number-raised.ensures
+returns c = rw c.from-raised.ensures

@@ -1,7 +1,6 @@
--- `number`: the sum of the bits' weights.
+-- `from`: the sum of the bits' weights.
 use Rattle.state_parts.specs.Edges.{flags_number}
-use borrow.Author.Rules.{rules}
-use Rattle.state_parts.proofs.flags.number.Goals as goal
+use Rattle.state_parts.proofs.flags.U32FromEdges.from.Goals as goal
 
 pub returns : goal.returns
 unfolding flags_number
