@@ -2,19 +2,19 @@
 use Prim.Native.Nat.{ℕ}
 use mathlib.Core.Path.{◌≡◌, ap}
 use native.Mathlib.Omega.{arith}
+use Rattle.std.specs.Prelude.{Ok, Err}
 use Rattle.base.specs.Outcomes.{Settled}
 use Rattle.base.specs.Refusals.{refusal_number}
 use Rattle.base.proofs.Answers.{refusal-one}
 use Rattle.base.proofs.Outcomes.{contract-settles, plain-settles}
 use Rattle.state_registers.specs.PublicPromises.{OneOutcome}
 use Rattle.state_registers.specs.Writes.{write_told}
-use Rattle.state_registers.specs.declared.writing.WriteAnswer.TheVariants as writing
 
 pub write-settled : Settled write_told
-write-settled (writing.Stored a) (writing.Stored b) e = cc
-write-settled (writing.Stored a) (writing.Refused r) e = absurd (let z : ◌≡◌ {A = ℕ} 0 1 = cc in omega arith)
-write-settled (writing.Refused r) (writing.Stored b) e = absurd (let z : ◌≡◌ {A = ℕ} 0 1 = cc in omega arith)
-write-settled (writing.Refused r) (writing.Refused s) e = let n : refusal_number r ≡ refusal_number s = cc in ap writing.Refused (refusal-one r s n)
+write-settled (Ok a) (Ok b) e = cc
+write-settled (Ok a) (Err r) e = absurd (let z : ◌≡◌ {A = ℕ} 0 1 = cc in omega arith)
+write-settled (Err r) (Ok b) e = absurd (let z : ◌≡◌ {A = ℕ} 0 1 = cc in omega arith)
+write-settled (Err r) (Err s) e = let n : refusal_number r ≡ refusal_number s = cc in ap Err (refusal-one r s n)
 
 pub one-outcome : OneOutcome
 one-outcome =

@@ -1,9 +1,10 @@
 -- 01, "Registers 0x15-0x1C": what a written byte leaves, and "Model order: 6, 10, 5, 11 for writes". Refusal 6 is the caller's, who has no state to write to then.
-use Rattle.std.specs.Prelude.{ℕ, Bool, not, ◌&&◌, leb, eqb}
+use Rattle.std.specs.Prelude.{ℕ, Bool, not, ◌&&◌, leb, eqb, Result, Ok, Err}
 use Rattle.base.specs.Pick.{pick}
 use Rattle.base.specs.Refusals.{refusal_number}
 use Rattle.base.specs.Told.{Told, accepted, refused}
 use Rattle.base.specs.Units.{in_pack}
+use Rattle.base.specs.declared.refusal.Refusal.{Refusal}
 use Rattle.state_table.specs.Rows.{cell_pin, cell_override, fsw, digit_of, frequency_ok}
 use Rattle.state_fields.specs.Held.{is_set, taken_by}
 use Rattle.state_parts.specs.Pins.{vchg_of}
@@ -13,13 +14,11 @@ use Rattle.state_parts.specs.declared.profile.Profile.{Profile}
 use Rattle.state_parts.specs.declared.registers.Registers.{Registers}
 use Rattle.state_parts.specs.declared.settings.Settings.{Settings}
 use Rattle.state_parts.specs.declared.state.State.{State}
-use Rattle.state_registers.specs.declared.writing.WriteAnswer.{WriteAnswer}
-use Rattle.state_registers.specs.declared.writing.WriteAnswer.TheVariants.{Stored, Refused}
 
 -- a write's answer in the paper's numbers
-abbrev pub write_told : WriteAnswer → Told State
-write_told (Stored s) = accepted s
-write_told (Refused refusal) = refused (refusal_number refusal)
+abbrev pub write_told : Result State Refusal → Told State
+write_told (Ok s) = accepted s
+write_told (Err r) = refused (refusal_number r)
 
 -- "address not 0x15-0x1C" (10)
 abbrev pub known_address : ℕ → Bool

@@ -1,8 +1,7 @@
 // Writing a register.
 ghost use Rattle.std.specs.Prelude.{◌≡◌};
 ghost use Rattle.base.specs.Pick.{pick};
-ghost use Rattle.base.specs.Told.{accepted, refused};
-ghost use Rattle.state_registers.specs.Writes.{write_told, known_address, count_taken, recounted, written_to};
+ghost use Rattle.state_registers.specs.Writes.{known_address, count_taken, recounted, written_to};
 ghost use Rattle.state_registers.specs.PublicPromises.{WritePromise};
 
 use base::refusal::Refusal;
@@ -16,12 +15,6 @@ use state_parts::registers::Registers;
 use state_parts::settings::Settings;
 use state_parts::state::State;
 use state_start::start_vsysmin;
-
-#[derive(Clone, Copy)]
-pub enum WriteAnswer {
-    Stored(State),
-    Refused(Refusal),
-}
 
 // One of the eight addresses.
 fn known(address: u32) -> bool
@@ -76,29 +69,21 @@ fn written(s: State, address: u32, byte: u32) -> State
     n
 }
 
-// The first refusal that its test asks for, else the state after.
-fn answered(unknown: bool, large: bool, bad: bool, after: State) -> WriteAnswer
-    ensures { write_told result ≡ pick unknown (refused 10) (pick large (refused 5) (pick bad (refused 11) (accepted after))) }
-{
-    if unknown {
-        return WriteAnswer::Refused(Refusal::UnknownAddress);
-    }
-    if large {
-        return WriteAnswer::Refused(Refusal::OutOfRange);
-    }
-    if bad {
-        return WriteAnswer::Refused(Refusal::BadFrequency);
-    }
-    WriteAnswer::Stored(after)
-}
-
 // The host writes a byte at an address.
-pub fn write(s: State, address: u32, byte: u32) -> WriteAnswer
+#[tactic(auto, unfolding(crate::specs::Writes::write_of))]
+pub fn write(s: State, address: u32, byte: u32) -> Result<State, Refusal>
     ensures { WritePromise s address byte result }
 {
-    let there = known(address);
+    if !known(address) {
+        return Err(Refusal::UnknownAddress);
+    }
+    if 255 < byte {
+        return Err(Refusal::OutOfRange);
+    }
     let code = byte / 1 % 8;
     let legal = (1 <= code) & (code <= 6);
-    let after = written(s, address, byte);
-    answered(!there, !(byte <= 255), (address == 0x16) & !legal, after)
+    if (address == 0x16) & !legal {
+        return Err(Refusal::BadFrequency);
+    }
+    Ok(written(s, address, byte))
 }

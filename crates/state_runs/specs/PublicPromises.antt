@@ -1,13 +1,14 @@
 -- What the calls of a run promise, and that each promise allows one outcome.
-use Rattle.std.specs.Prelude.{ℕ, ◌≡◌}
+use Rattle.std.specs.Prelude.{ℕ, ◌≡◌, Result}
 use Rattle.base.specs.Outcomes.{One}
+use Rattle.base.specs.declared.refusal.Refusal.{Refusal}
 use Rattle.log_raw.specs.Struct.{raw_of}
 use Rattle.log_raw.specs.declared.RawBytes.{RawBytes}
 use Rattle.state_parts.specs.declared.state.State.{State}
 use Rattle.state_runs.specs.Runs.{run_told, write_run_of}
-use Rattle.state_runs.specs.declared.run.RunAnswer.{RunAnswer}
+use Rattle.state_runs.specs.declared.registers.Kept.{Kept}
 
-abbrev pub RunPromise : State → ℕ → RawBytes → RunAnswer → Type 0
+abbrev pub RunPromise : State → ℕ → RawBytes → Result Kept Refusal → Type 0
 RunPromise s first raw r = run_told s r ≡ write_run_of s first (raw_of raw)
 
 -- "equal inputs allow one outcome"

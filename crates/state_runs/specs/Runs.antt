@@ -1,9 +1,10 @@
 -- 02, R-3: a run of written bytes. "a run is taken whole or not at all": it is judged on the written bytes before anything changes. Refusal 6 is the caller's, who has no state to
 -- write to then.
-use Rattle.std.specs.Prelude.{ℕ, ◌+◌, Bool, false, not, ◌&&◌, ◌||◌, leb, ltb, eqb}
+use Rattle.std.specs.Prelude.{ℕ, ◌+◌, Bool, false, not, ◌&&◌, ◌||◌, leb, ltb, eqb, Result, Ok, Err}
 use Rattle.base.specs.Pick.{pick}
 use Rattle.base.specs.Refusals.{refusal_number}
 use Rattle.base.specs.Told.{Told, accepted, refused}
+use Rattle.base.specs.declared.refusal.Refusal.{Refusal}
 use Rattle.log_raw.specs.Raw.{Raw, byte_of, has_spelling}
 use Rattle.state_parts.specs.With.{with_settings, with_registers}
 use Rattle.state_parts.specs.declared.profile.Profile.{Profile}
@@ -14,8 +15,6 @@ use Rattle.state_table.specs.Packed.{upper_half}
 use Rattle.state_runs.specs.Bytes.{value_in, stepwise, is_written, written_code}
 use Rattle.state_runs.specs.Registers.{bad_register, register_taken}
 use Rattle.state_runs.specs.declared.registers.Kept.{Kept}
-use Rattle.state_runs.specs.declared.run.RunAnswer.{RunAnswer}
-use Rattle.state_runs.specs.declared.run.RunAnswer.TheVariants.{Taken, Refused}
 
 -- "a run touching an address outside the map" (10)
 abbrev pub outside : ℕ → ℕ → Bool
@@ -53,9 +52,9 @@ abbrev pub with_kept : State → Kept → State
 with_kept s k = with_registers (with_settings s k.settings) (record { words = k.words; cells = k.cells })
 
 -- a run's answer on a state, in the paper's numbers
-abbrev pub run_told : State → RunAnswer → Told State
-run_told s (Taken k) = accepted (with_kept s k)
-run_told s (Refused r) = refused (refusal_number r)
+abbrev pub run_told : State → Result Kept Refusal → Told State
+run_told s (Ok k) = accepted (with_kept s k)
+run_told s (Err r) = refused (refusal_number r)
 
 -- the state as written: before reset and service bits act, and before it settles
 unfoldable pub written_run : State → ℕ → Raw → State

@@ -16,13 +16,6 @@ use state_parts::registers::Registers;
 use state_parts::state::State;
 use state_table::rows_below;
 
-// What a run leaves of what it may change, or the refusal.
-#[derive(Clone, Copy)]
-pub enum RunAnswer {
-    Taken(Kept),
-    Refused(Refusal),
-}
-
 // Whether an address is the middle of a register.
 fn in_middle(p: Profile, address: u32) -> bool
     ensures { result ≡ in_middle p address }
@@ -127,27 +120,28 @@ fn kept_of(s: State) -> Kept
 }
 
 // The host writes a run of bytes from an address on. What it changes is handed back, and not the state: a copy of that is large.
-pub fn run(s: State, first: u32, raw: RawBytes) -> RunAnswer
+#[tactic(auto, unfolding(crate::specs::Runs::write_run_of, crate::specs::Runs::written_run))]
+pub fn run(s: State, first: u32, raw: RawBytes) -> Result<Kept, Refusal>
     ensures { RunPromise s first raw result }
 {
     if !has_spelling(raw) {
-        return RunAnswer::Refused(Refusal::OutOfRange);
+        return Err(Refusal::OutOfRange);
     }
     let end = (first as u64) + (raw.length as u64);
     if 39 < end {
-        return RunAnswer::Refused(Refusal::UnknownAddress);
+        return Err(Refusal::UnknownAddress);
     }
     let p = s.profile;
     if in_middle(p, first) | in_middle(p, first + raw.length) {
-        return RunAnswer::Refused(Refusal::HalfRegister);
+        return Err(Refusal::HalfRegister);
     }
     if bad_frequency(p, first, raw) {
-        return RunAnswer::Refused(Refusal::BadFrequency);
+        return Err(Refusal::BadFrequency);
     }
     if bad_run(p, first, raw) {
-        return RunAnswer::Refused(Refusal::BadValue);
+        return Err(Refusal::BadValue);
     }
     let before = s.registers;
     let held = kept_of(s);
-    RunAnswer::Taken(kept_run(p, before, first, raw, held))
+    Ok(kept_run(p, before, first, raw, held))
 }
