@@ -37,7 +37,7 @@ fn word(bytes: &[u8], at: usize) -> u32
     u32::from_le_bytes([first, second, third, last])
 }
 
-// Reads words that are all there, with no test for each.
+// Reads words that are all there, with no test for each. Its loop stands again below: one loop that takes the reader as a closure has a longer contract, and a longer proof, than both.
 fn read_whole(bytes: &[u8], all: &mut [u32])
     requires { length all.old * 4 ≤ length bytes.now }
     ensures { ReadPromise bytes.now all.old all.new }
