@@ -1,5 +1,5 @@
 -- The last arm of a `match` over codes that count from 0: what is none of the codes before it is it, or more.
-use Rattle.std.proofs.Common.{◌≡◌, ℕ, zero, suc, ◌+◌, ◌<◌, ◌≤◌, arith}
+use Rattle.std.proofs.Common.{◌≡◌, ℕ, zero, suc, ◌<◌, ◌≤◌, arith}
 
 -- none of the first so many codes, as a `match` tells it of its last arm
 abbrev pub NoneOf : ℕ → ℕ → Type 0

@@ -10,8 +10,6 @@ use Rattle.base.specs.Pick.{pick}
 use Rattle.base.specs.Refusals.{refusal_number}
 use Rattle.base.specs.Writing.{wrote, refused, written, written_told}
 use Rattle.base.specs.declared.refusal.Refusal.{Refusal}
-use Rattle.base.specs.declared.written.Written.{Written}
-use Rattle.base.specs.declared.written.Written.TheVariants.{Count, Refused}
 use Rattle.log_event.specs.Items.{all_sound}
 use Rattle.log_event.specs.Events.{items_of}
 use Rattle.log_event.specs.declared.Event.{Event}
@@ -38,15 +36,15 @@ module _ (kind : ℕ) (bytes out : List ℕ) (g : Given) (told : given_told g �
   unfolding write_call_of
   not-given r n e en = rw (← told, e, en)
 
-  pub was-written : (e : Event) (w : Written) (n count : ℕ) (after : List ℕ) → g ≡ goal.Event e → written_told w ≡ event_written e out → after ≡ event_put e out
-      → w ≡ Count n → count ≡ length (spell_event e) → ◌≡◌ {A = Left Put} (left (record { number = 0; count = count; place = 0 }) after) (write_call_of kind bytes out)
+  pub was-written : (e : Event) (w : Result ℕ Refusal) (n count : ℕ) (after : List ℕ) → g ≡ goal.Event e → written_told w ≡ event_written e out → after ≡ event_put e out
+      → w ≡ Ok n → count ≡ length (spell_event e) → ◌≡◌ {A = Left Put} (left (record { number = 0; count = count; place = 0 }) after) (write_call_of kind bytes out)
   unfolding write_call_of
   was-written e w n count after eg ew ea en ec =
       let told-one : wrote n ≡ event_written e out = sym (ap written_told en) ∙ ew in
       let same : count ≡ n = ec ∙ sym (the-count e out n told-one) in
       rw (← told, eg, ← told-one, ea, same)
 
-  pub not_written : (e : Event) (w : Written) (r : Refusal) (n : ℕ) (after : List ℕ) → g ≡ goal.Event e → written_told w ≡ event_written e out → after ≡ event_put e out
-      → w ≡ Refused r → n ≡ refusal_number r → ◌≡◌ {A = Left Put} (left (record { number = n; count = 0; place = 0 }) after) (write_call_of kind bytes out)
+  pub not_written : (e : Event) (w : Result ℕ Refusal) (r : Refusal) (n : ℕ) (after : List ℕ) → g ≡ goal.Event e → written_told w ≡ event_written e out → after ≡ event_put e out
+      → w ≡ Err r → n ≡ refusal_number r → ◌≡◌ {A = Left Put} (left (record { number = n; count = 0; place = 0 }) after) (write_call_of kind bytes out)
   unfolding write_call_of
   not_written e w r n after eg ew ea er en = rw (← told, eg, ← ew, er, ea, en)

@@ -2,7 +2,6 @@
 ghost use Rattle.c_calls.specs.PublicPromises.{ComparePromise};
 
 use crate::answer::ComparedLogs;
-use base::refusal;
 use log_pairs::answer::Compared;
 
 // Reads two logs side by side.
@@ -24,7 +23,7 @@ pub fn cheukdane_compare(first: &[u8], second: &[u8]) -> ComparedLogs
             place,
         },
         Compared::Refused(r, count, place) => {
-            let number = refusal::number(r);
+            let number = u32::from(r);
             ComparedLogs {
                 number,
                 log: 0,

@@ -4,7 +4,7 @@ ghost use Rattle.step_event.specs.Walks.{came_told};
 ghost use Rattle.c_image.specs.Images.{image_length};
 ghost use Rattle.c_calls.specs.Landing.{both, shown_numbers, land_of};
 
-use base::{choice, volts};
+use base::choice;
 use report_state::report;
 use state_parts::phase;
 use state_parts::state::Model;
@@ -27,7 +27,7 @@ fn shown_numbers(m: Model, pulse: bool, handed: u32) -> Shown
             let current = told.current;
             let limit = told.limit;
             let phase = phase::number(at);
-            let voltage = volts::millivolts(pack);
+            let voltage = u32::from(pack);
             [phase, current, voltage, limit, beat, flags, handed]
         }
     }

@@ -6,7 +6,6 @@ ghost use Rattle.c_calls.specs.PublicPromises.{OffPromise, PlayPromise, EventPro
 
 use crate::answer::{Answer, Played, answered};
 use crate::landing;
-use base::refusal;
 use c_event::Given;
 use c_image::Loaded;
 use log_event::kinds;
@@ -49,7 +48,7 @@ fn stopped(got: Read, at: usize) -> Played
             next: at,
         },
         Read::Refused(r, place) => {
-            let number = refusal::number(r);
+            let number = u32::from(r);
             Played {
                 number,
                 kind: 0,
@@ -106,7 +105,7 @@ pub fn cheukdane_event(image: &mut [u8], kind: u32, bytes: &[u8], shown: &mut [u
     let got = c_event::event_of(kind, bytes);
     match got {
         Given::Refused(r) => {
-            let number = refusal::number(r);
+            let number = u32::from(r);
             answered(number)
         }
         Given::Event(e) => {

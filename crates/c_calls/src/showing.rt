@@ -5,7 +5,6 @@ ghost use Rattle.c_calls.specs.PublicPromises.{ReportPromise, RegisterPromise};
 ghost use Rattle.report_registers.specs.Reads.{register_told};
 
 use crate::answer::{Answer, Byte, answered};
-use base::{refusal, volts};
 use c_image::Loaded;
 use report_registers::ReadAnswer;
 use report_state::{report, stat};
@@ -25,7 +24,7 @@ fn report_numbers(s: State) -> Report
     let current = told.current;
     let limit = told.limit;
     let phase = phase::number(at);
-    let voltage = volts::millivolts(pack);
+    let voltage = u32::from(pack);
     let stat = stat::number(stat::stat(s));
     [phase, current, voltage, limit, flags, stat]
 }
@@ -62,7 +61,7 @@ fn byte_of(got: ReadAnswer) -> Byte
             place: 0,
         },
         ReadAnswer::Refused(r) => {
-            let number = refusal::number(r);
+            let number = u32::from(r);
             Byte {
                 number,
                 byte: 0,

@@ -2,8 +2,6 @@
 ghost use Rattle.c_calls.specs.PublicPromises.{WritePromise};
 
 use crate::answer::Put;
-use base::refusal;
-use base::written::Written;
 use c_event::Given;
 
 // Writes an event's record at the start of `out`.
@@ -13,7 +11,7 @@ pub fn cheukdane_write(kind: u32, bytes: &[u8], out: &mut [u8]) -> Put
     let got = c_event::event_of(kind, bytes);
     match got {
         Given::Refused(r) => {
-            let number = refusal::number(r);
+            let number = u32::from(r);
             Put {
                 number,
                 count: 0,
@@ -24,13 +22,13 @@ pub fn cheukdane_write(kind: u32, bytes: &[u8], out: &mut [u8]) -> Put
             let count = log_record::width(e) as u32;
             let written = log_record::write(out, e);
             match written {
-                Written::Count(_) => Put {
+                Ok(_) => Put {
                     number: 0,
                     count,
                     place: 0,
                 },
-                Written::Refused(r) => {
-                    let number = refusal::number(r);
+                Err(r) => {
+                    let number = u32::from(r);
                     Put {
                         number,
                         count: 0,

@@ -8,7 +8,6 @@ use crate::places::{
     BANDS, COUNT, CYCLE, FLAGS, LATCHES, PHASE, REGISTERS, SAMPLE, SETTINGS, WATCHDOG,
 };
 use base::choice::bit;
-use base::volts;
 use log_number::ibat;
 use state_parts::cycle::Cycle;
 use state_parts::latches::Latches;
@@ -46,12 +45,12 @@ fn with_settings(before: Numbers, s: Settings) -> Numbers
     let vreg = s.vreg;
     let vsysmin = s.vsysmin;
     let mut all = before;
-    all[SETTINGS] = volts::millivolts(vreg);
+    all[SETTINGS] = u32::from(vreg);
     all[SETTINGS + 1] = s.ichg;
     all[SETTINGS + 2] = s.iprechg;
     all[SETTINGS + 3] = s.iterm;
     all[SETTINGS + 4] = s.iindpm;
-    all[SETTINGS + 5] = volts::millivolts(vsysmin);
+    all[SETTINGS + 5] = u32::from(vsysmin);
     all[SETTINGS + 6] = s.lowv;
     all[SETTINGS + 7] = s.vrechg;
     all[SETTINGS + 8] = bit(s.enchg);

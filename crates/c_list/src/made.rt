@@ -3,9 +3,9 @@ ghost use Rattle.std.specs.Prelude.{◌+◌, ◌*◌, ◌≡◌};
 ghost use Rattle.c_list.specs.Places.{profile_place, settings_place, registers_place, latches_place, cycle_place, sample_place, bands_place};
 ghost use Rattle.c_list.specs.Back.{profile_from, settings_from, registers_from, latches_from, cycle_from, sample_from, phase_from, band_from, bands_from, state_from};
 
+use base::units::PackMv;
 use crate::list::Numbers;
 use crate::places::{BANDS, CYCLE, FLAGS, LATCHES, PHASE, REGISTERS, SAMPLE, SETTINGS, WATCHDOG};
-use base::volts;
 use log_number::ibat;
 use state_parts::band::{Bands, TsBand};
 use state_parts::cycle::Cycle;
@@ -40,8 +40,8 @@ fn profile(all: Numbers) -> Profile
 fn settings(all: Numbers) -> Settings
     ensures { result ≡ settings_from all settings_place }
 {
-    let vreg = volts::pack(all[SETTINGS]);
-    let vsysmin = volts::pack(all[SETTINGS + 5]);
+    let vreg = PackMv::from(all[SETTINGS]);
+    let vsysmin = PackMv::from(all[SETTINGS + 5]);
     Settings {
         vreg,
         ichg: all[SETTINGS + 1],

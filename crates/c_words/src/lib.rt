@@ -8,7 +8,6 @@ ghost use Rattle.c_words.specs.Words.{word_at};
 ghost use Rattle.c_words.specs.PublicPromises.{ReadPromise, WritePromise};
 
 use base::refusal::Refusal;
-use base::written::Written;
 
 // The byte at a place; 0 past the end.
 fn byte(bytes: &[u8], at: usize) -> u8
@@ -68,15 +67,15 @@ pub fn read(bytes: &[u8], all: &mut [u32])
 }
 
 // Writes words at the start of `out`, or nothing if they do not fit.
-pub fn write(out: &mut [u8], all: &[u32]) -> Written
+pub fn write(out: &mut [u8], all: &[u32]) -> Result<usize, Refusal>
     ensures { WritePromise all.now out.old result out.new }
 {
     if out.len() / 4 < all.len() {
-        return Written::Refused(Refusal::NoRoom);
+        return Err(Refusal::NoRoom);
     }
     for (i, n) in all.iter().enumerate() {
         let at = i * 4;
         out[at..at + 4].copy_from_slice(&n.to_le_bytes());
     }
-    Written::Count(all.len() * 4)
+    Ok(all.len() * 4)
 }

@@ -4,7 +4,6 @@
 
 mod reading;
 
-use base::written::Written;
 use log_pairs::answer::Compared;
 use std::io;
 use std::rt::{Env, Files};
@@ -44,7 +43,7 @@ fn load<R: Env + Files, P: io::Print>(rt: &R, to: &P, i: usize, log: &mut [u8]) 
 fn print_answer<P: io::Print>(to: &P, compared: Compared) {
     let mut out = [0u8; 64];
     let put = log_pairs::text::answer(&mut out, compared);
-    let Written::Count(n) = put else {
+    let Ok(n) = put else {
         return;
     };
     if n <= 64 {

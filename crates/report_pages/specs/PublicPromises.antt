@@ -1,8 +1,8 @@
 -- What the calls that write a page promise, and that each promise allows one outcome.
-use Rattle.std.specs.Prelude.{ℕ, ◌≤◌, ◌≡◌, List, length}
+use Rattle.std.specs.Prelude.{ℕ, ◌≤◌, ◌≡◌, List, length, Result}
 use Rattle.base.specs.Outcomes.{One, OfTwo}
 use Rattle.base.specs.Writing.{written_told, written, put}
-use Rattle.base.specs.declared.written.Written.{Written}
+use Rattle.base.specs.declared.refusal.Refusal.{Refusal}
 use Rattle.report_state.specs.declared.line.Line.{Line}
 use Rattle.report_pages.specs.Text.{most_page, page_text}
 
@@ -10,7 +10,7 @@ abbrev pub PageWidthPromise : ℕ → List Line → ℕ → Type 0
 PageWidthPromise most lines r = (r ≡ length (page_text most lines)) × (r ≤ most_page)
 
 -- as every writer's, with the most bytes that a page's text has
-abbrev pub PagePromise : ℕ → List Line → List ℕ → Written → List ℕ → Type 0
+abbrev pub PagePromise : ℕ → List Line → List ℕ → Result ℕ Refusal → List ℕ → Type 0
 PagePromise most lines part r after =
     (written_told r ≡ written (page_text most lines) part) × (after ≡ put (page_text most lines) part) × (length (page_text most lines) ≤ most_page)
 

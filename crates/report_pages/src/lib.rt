@@ -6,7 +6,6 @@ ghost use Rattle.report_pages.specs.Text.{numbers_of, lines_text, page_count, mo
 ghost use Rattle.report_pages.specs.PublicPromises.{PageWidthPromise, PagePromise};
 
 use base::refusal::Refusal;
-use base::written::Written;
 use report_state::line::Line;
 use report_text::text;
 use report_text::text::LineNumbers;
@@ -63,23 +62,23 @@ pub fn page_width(lines: PageLines, most: usize) -> usize
 }
 
 // Writes the first `most` lines of a page.
-pub fn page(out: &mut [u8], lines: PageLines, most: usize) -> Written
+pub fn page(out: &mut [u8], lines: PageLines, most: usize) -> Result<usize, Refusal>
     ensures { PagePromise most lines out.old result out.new }
 {
     let count = lesser(most, PAGE);
     if out.len() < width(lines, count) {
-        return Written::Refused(Refusal::NoRoom);
+        return Err(Refusal::NoRoom);
     }
     let mut at: usize = 0;
     let mut i: usize = 0;
     while i < count {
         let line = lines[i];
         let put = text::line(&mut out[at..], numbers_of(line));
-        let Written::Count(n) = put else {
+        let Ok(n) = put else {
             return put;
         };
         at += n;
         i += 1;
     }
-    Written::Count(at)
+    Ok(at)
 }

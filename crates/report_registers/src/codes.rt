@@ -17,8 +17,8 @@ use step_flags::between::Seen;
 fn charge_stat(phase: u32) -> u32
     ensures { result ≡ charge_stat phase }
 {
-    let done = choice::number(phase == 5, 7, 0);
-    choice::number(phase <= 4, phase, done)
+    let done = choice::either(phase == 5, 7, 0);
+    choice::either(phase <= 4, phase, done)
 }
 
 // A status by its number; the numbers go round.
@@ -66,7 +66,7 @@ fn all_of(n: u32, first: u32, count: u32) -> u32
 fn pin(p: Profile, number: u32) -> u32
     ensures { result ≡ pin_of p number }
 {
-    choice::number(number == 0, p.vchg, p.ichg)
+    choice::either(number == 0, p.vchg, p.ichg)
 }
 
 // The code of the field at a place of the table.

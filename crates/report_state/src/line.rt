@@ -3,7 +3,6 @@ ghost use Rattle.std.specs.Prelude.{◌≡◌};
 ghost use Rattle.report_state.specs.Lines.{line_of};
 
 use crate::report;
-use base::volts;
 use state_parts::phase;
 use state_parts::state::Model;
 
@@ -44,7 +43,7 @@ pub fn line_of(number: u32, kind: u32, answer: u32, pulse: u32, m: Model) -> Lin
             let at = shown.phase;
             let pack = shown.voltage;
             let phase = phase::number(at);
-            let voltage = volts::millivolts(pack);
+            let voltage = u32::from(pack);
             Line {
                 number,
                 kind,

@@ -3,8 +3,9 @@ ghost use Rattle.std.specs.Prelude.{◌≡◌, min};
 ghost use Rattle.report_state.specs.Report.{charge_clamp_of, fast_current, trickle_current, current_in, input_limit_of};
 ghost use Rattle.report_state.specs.PublicPromises.{ReportPromise};
 
+use base::units::PackMv;
 use crate::answer::Report;
-use base::{choice, volts};
+use base::choice;
 use settle_bands::{effect, joined};
 use settle_levels::voltage;
 use state_fields::named;
@@ -28,7 +29,7 @@ fn charge_clamp(profile: Profile, registers: Registers) -> u32
 {
     let lifted = named::ichg_override(registers);
     let pin = pins::ichg(profile);
-    choice::number(lifted, 3300, pin)
+    choice::either(lifted, 3300, pin)
 }
 
 // The current of phases 3 and 4: all that ICHG reaches.
@@ -94,8 +95,8 @@ pub fn report(state: State) -> Report
     let current = current_in(phase, trickle, precharge, fast);
     let charge = voltage::charge_voltage(profile, settings, registers, band);
     let charges = phase::charging(phase);
-    let none = volts::pack(0);
-    let voltage = volts::either(charges, charge, none);
+    let none = PackMv::from(0);
+    let voltage = choice::either(charges, charge, none);
     let limit = input_limit(profile, settings);
     Report {
         phase: phase,

@@ -6,7 +6,6 @@ ghost use Rattle.report_text.specs.Writing.{over};
 
 use crate::numbers;
 use base::refusal::Refusal;
-use base::written::Written;
 
 // What a record's line holds: number, kind, answer, phase, current, voltage, input limit, pulse, flags.
 pub type LineNumbers = [u32; 9];
@@ -15,16 +14,16 @@ pub type LineNumbers = [u32; 9];
 pub type EndNumbers = [u32; 3];
 
 // A line of no more numbers than a record's has.
-fn whole(out: &mut [u8], numbers: &[u32]) -> Written
+fn whole(out: &mut [u8], numbers: &[u32]) -> Result<usize, Refusal>
     requires { length numbers.now ≤ line_count }
     ensures { LinePromise numbers.now out.old result out.new }
 {
     let bytes = numbers::width(numbers);
     if out.len() < bytes {
-        return Written::Refused(Refusal::NoRoom);
+        return Err(Refusal::NoRoom);
     }
     numbers::put(out, numbers);
-    Written::Count(bytes)
+    Ok(bytes)
 }
 
 // How many bytes a record's line has.
@@ -35,7 +34,7 @@ pub fn line_width(numbers: LineNumbers) -> usize
 }
 
 // A record's line.
-pub fn line(out: &mut [u8], numbers: LineNumbers) -> Written
+pub fn line(out: &mut [u8], numbers: LineNumbers) -> Result<usize, Refusal>
     ensures { LinePromise numbers out.old result out.new }
 {
     whole(out, &numbers)
@@ -54,25 +53,25 @@ fn put_word(out: &mut [u8], word: &[u8])
 }
 
 // A word, and a line of no more numbers than a record's has in the rest of the part.
-fn headed(out: &mut [u8], word: &[u8], numbers: &[u32]) -> Written
+fn headed(out: &mut [u8], word: &[u8], numbers: &[u32]) -> Result<usize, Refusal>
     requires { length numbers.now ≤ line_count }
     ensures { HeadedPromise word.now numbers.now out.old result out.new }
 {
     let start = word.len();
     if out.len() < start {
-        return Written::Refused(Refusal::NoRoom);
+        return Err(Refusal::NoRoom);
     }
     match whole(&mut out[start..], numbers) {
-        Written::Count(bytes) => {
+        Ok(bytes) => {
             put_word(out, word);
-            Written::Count(bytes + start)
+            Ok(bytes + start)
         }
-        Written::Refused(refusal) => Written::Refused(refusal),
+        Err(refusal) => Err(refusal),
     }
 }
 
 // A word and one number.
-pub fn one(out: &mut [u8], word: &[u8], number: u32) -> Written
+pub fn one(out: &mut [u8], word: &[u8], number: u32) -> Result<usize, Refusal>
     ensures { HeadedPromise word.now (number ∷ []) out.old result out.new }
 {
     let numbers = [number];
@@ -80,14 +79,14 @@ pub fn one(out: &mut [u8], word: &[u8], number: u32) -> Written
 }
 
 // A word and three numbers.
-pub fn three(out: &mut [u8], word: &[u8], numbers: EndNumbers) -> Written
+pub fn three(out: &mut [u8], word: &[u8], numbers: EndNumbers) -> Result<usize, Refusal>
     ensures { HeadedPromise word.now numbers out.old result out.new }
 {
     headed(out, word, &numbers)
 }
 
 // The last line.
-pub fn end(out: &mut [u8], numbers: EndNumbers) -> Written
+pub fn end(out: &mut [u8], numbers: EndNumbers) -> Result<usize, Refusal>
     ensures { EndPromise numbers out.old result out.new }
 {
     three(out, b"end ", numbers)

@@ -3,7 +3,7 @@ ghost use Rattle.std.specs.Prelude.{◌≡◌};
 ghost use Rattle.settle_bands.specs.Effect.{suspended_in, suspends_of, share_by_band, share_of, is_warm, cut_of};
 
 use base::units::CellMv;
-use base::{choice, entry, units};
+use base::{choice, entry};
 use state_fields::named;
 use state_parts::band::Band;
 use state_parts::profile::Profile;
@@ -50,8 +50,8 @@ pub fn share(profile: Profile, registers: Registers, band: Band) -> u32
 {
     let isetc = named::jeita_isetc(registers);
     let iseth = named::jeita_iseth(registers);
-    let cool = entry::of_four(isetc, 0, 20, 40, 100);
-    let warm = choice::number(iseth == 1, 100, 40);
+    let cool = entry::of(isetc, [0, 20, 40, 100]);
+    let warm = choice::either(iseth == 1, 100, 40);
     share_by_band(band, cool, warm)
 }
 
@@ -73,7 +73,7 @@ pub fn cut(profile: Profile, registers: Registers, band: Band) -> CellMv
     ensures { result ≡ cut_of profile registers band }
 {
     let code = named::jeita_vset(registers);
-    let off = entry::of_four(code, 0, 250, 100, 0);
+    let off = entry::of(code, [0, 250, 100, 0]);
     let warm = is_warm(band);
-    units::choose_cell(warm, CellMv(off), CellMv(0))
+    choice::either(warm, CellMv(off), CellMv(0))
 }

@@ -23,28 +23,28 @@ fn th1(profile: Profile, registers: Registers) -> u32
     ensures { result ≡ th1_of profile registers }
 {
     let code = named::ts_th1(registers);
-    entry::of_four(code, 77150, 75320, 73300, 70900)
+    entry::of(code, [77150, 75320, 73300, 70900])
 }
 
 fn th2(profile: Profile, registers: Registers) -> u32
     ensures { result ≡ th2_of profile registers }
 {
     let code = named::ts_th2(registers);
-    entry::of_four(code, 70900, 68250, 65350, 62250)
+    entry::of(code, [70900, 68250, 65350, 62250])
 }
 
 fn th3(profile: Profile, registers: Registers) -> u32
     ensures { result ≡ th3_of profile registers }
 {
     let code = named::ts_th3(registers);
-    entry::of_four(code, 48400, 44750, 41200, 37700)
+    entry::of(code, [48400, 44750, 41200, 37700])
 }
 
 fn th5(profile: Profile, registers: Registers) -> u32
     ensures { result ≡ th5_of profile registers }
 {
     let code = named::ts_th5(registers);
-    entry::of_four(code, 41200, 37700, 34375, 31250)
+    entry::of(code, [41200, 37700, 34375, 31250])
 }
 
 // The judged order of bands.

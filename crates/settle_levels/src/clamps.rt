@@ -2,6 +2,7 @@
 ghost use Rattle.std.specs.Prelude.{◌≡◌};
 ghost use Rattle.settle_levels.specs.Clamps.{fault_of, pack_clamp_of, base_of};
 
+use base::choice;
 use base::units;
 use base::units::{CellMv, PackMv};
 use state_fields::named;
@@ -28,7 +29,7 @@ fn pack_clamp(profile: Profile, registers: Registers) -> PackMv
     let cells = registers.cells;
     let ceiling = CellMv(profile.ceiling);
     let pin = pins::vchg(profile);
-    let each = units::choose_cell(lifted, ceiling, pin);
+    let each = choice::either(lifted, ceiling, pin);
     units::in_pack(each, cells)
 }
 

@@ -2,9 +2,10 @@
 ghost use Rattle.std.specs.Prelude.{◌≡◌};
 ghost use Rattle.settle_levels.specs.Comparators.{held, good_of, input_ok_of, input_over_of, short_returns, short_ends, short_of, low_returns, low_ends, low_of, pack_over_of, latches_of};
 
+use base::choice;
 use crate::clamps;
 use base::units::{CellMv, PackMv};
-use base::{entry, units, volts};
+use base::{entry, units};
 use state_parts::latches::Latches;
 use state_parts::profile::Profile;
 use state_parts::registers::Registers;
@@ -33,20 +34,20 @@ fn input_over(profile: Profile, sample: Sample, was: bool) -> bool
 fn short_returns(profile: Profile, registers: Registers) -> CellMv
     ensures { result ≡ short_returns profile registers }
 {
-    units::choose_cell(registers.cells <= 2, CellMv(1850), CellMv(2000))
+    choice::either(registers.cells <= 2, CellMv(1850), CellMv(2000))
 }
 
 fn short_ends(profile: Profile, registers: Registers) -> CellMv
     ensures { result ≡ short_ends profile registers }
 {
-    units::choose_cell(registers.cells <= 2, CellMv(2150), CellMv(2200))
+    choice::either(registers.cells <= 2, CellMv(2150), CellMv(2200))
 }
 
 fn short(profile: Profile, registers: Registers, sample: Sample, was: bool) -> bool
     ensures { result ≡ short_of profile registers sample was }
 {
     let cells = registers.cells;
-    let now = volts::pack(sample.pack);
+    let now = PackMv::from(sample.pack);
     let returns = units::in_pack(short_returns(profile, registers), cells);
     let ends = units::in_pack(short_ends(profile, registers), cells);
     hold(
@@ -59,7 +60,7 @@ fn short(profile: Profile, registers: Registers, sample: Sample, was: bool) -> b
 fn low_ends(profile: Profile, settings: Settings) -> u32
     ensures { result ≡ low_ends profile settings }
 {
-    entry::of_four(settings.lowv, 300, 550, 667, 714)
+    entry::of(settings.lowv, [300, 550, 667, 714])
 }
 
 fn low_returns(profile: Profile, settings: Settings) -> u32
@@ -71,7 +72,7 @@ fn low_returns(profile: Profile, settings: Settings) -> u32
 fn low(profile: Profile, settings: Settings, base: PackMv, sample: Sample, was: bool) -> bool
     ensures { result ≡ low_of profile settings base sample was }
 {
-    let now = volts::pack(sample.pack);
+    let now = PackMv::from(sample.pack);
     let begins = units::is_below_share(now, base, low_returns(profile, settings));
     let stays = units::is_below_share(now, base, low_ends(profile, settings));
     hold(begins, stays, was)
@@ -80,7 +81,7 @@ fn low(profile: Profile, settings: Settings, base: PackMv, sample: Sample, was: 
 fn pack_over(profile: Profile, base: PackMv, sample: Sample, was: bool) -> bool
     ensures { result ≡ pack_over_of profile base sample was }
 {
-    let now = volts::pack(sample.pack);
+    let now = PackMv::from(sample.pack);
     let under = units::is_below_share(now, base, 1040);
     let cleared = units::is_below_share(now, base, 1020);
     hold(!under, !cleared, was)

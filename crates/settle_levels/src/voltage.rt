@@ -4,7 +4,7 @@ ghost use Rattle.settle_levels.specs.Voltage.{charge_voltage_of, taper_of, below
 
 use crate::clamps;
 use base::units::PackMv;
-use base::{entry, units, volts};
+use base::{entry, units};
 use settle_bands::effect;
 use state_parts::band::Band;
 use state_parts::profile::Profile;
@@ -32,7 +32,7 @@ pub fn charge_voltage(
 pub fn tapers(charge: PackMv, sample: Sample) -> bool
     ensures { result ≡ taper_of charge sample }
 {
-    let now = volts::pack(sample.pack);
+    let now = PackMv::from(sample.pack);
     units::is_within(now, charge, 10)
 }
 
@@ -40,7 +40,7 @@ pub fn tapers(charge: PackMv, sample: Sample) -> bool
 pub fn below_recharge(profile: Profile, settings: Settings, charge: PackMv, sample: Sample) -> bool
     ensures { result ≡ below_recharge profile settings charge sample }
 {
-    let share = entry::of_four(settings.vrechg, 927, 941, 955, 970);
-    let now = volts::pack(sample.pack);
+    let share = entry::of(settings.vrechg, [927, 941, 955, 970]);
+    let now = PackMv::from(sample.pack);
     units::is_below_share(now, charge, share)
 }

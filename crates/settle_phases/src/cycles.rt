@@ -13,9 +13,9 @@ pub fn after(t: Tests, was: Cycle) -> Cycle
 {
     let clears = order::clears(t);
     let ends = order::ends(t);
-    let trickle = choice::number(clears, 0, was.trickle);
-    let precharge = choice::number(clears, 0, was.precharge);
-    let fast = choice::number(clears, 0, was.fast);
+    let trickle = choice::either(clears, 0, was.trickle);
+    let precharge = choice::either(clears, 0, was.precharge);
+    let fast = choice::either(clears, 0, was.fast);
     Cycle {
         trickle: trickle,
         precharge: precharge,

@@ -6,7 +6,7 @@ ghost use Rattle.state_registers.specs.PublicPromises.{WritePromise};
 
 use base::refusal::Refusal;
 use base::units::in_pack;
-use base::{choice, volts};
+use base::choice;
 use state_fields::named;
 use state_fields::taking::taken;
 use state_parts::pins;
@@ -41,9 +41,9 @@ pub fn recount(count: bool, p: Profile, cells: u32, t: Settings) -> Settings
     let fault = p.vchg == 0;
     let each = pins::vchg(p);
     let full = in_pack(each, cells);
-    let vreg = volts::either(count & !fault, full, t.vreg);
+    let vreg = choice::either(count & !fault, full, t.vreg);
     let start = start_vsysmin(p, cells);
-    let vsysmin = volts::either(count, start, t.vsysmin);
+    let vsysmin = choice::either(count, start, t.vsysmin);
     let mut n = t;
     n.vreg = vreg;
     n.vsysmin = vsysmin;
@@ -58,7 +58,7 @@ fn written(s: State, address: u32, byte: u32) -> State
     let count = count_taken(held, address, byte);
     let settings = recount(count, s.profile, byte / 1 % 8, s.settings);
     let words = taken(s.profile, held.words, address, byte);
-    let cells = choice::number(count, byte / 1 % 8, held.cells);
+    let cells = choice::either(count, byte / 1 % 8, held.cells);
     let registers = Registers {
         words: words,
         cells: cells,

@@ -142,7 +142,7 @@ pub fn register_taken(p: Profile, before: Registers, address: u32, value: u32, k
     let given = settings_taken(p, k.settings, address, value);
     let settings = writing::recount(count, p, value / 1 % 8, given);
     let words = taken(p, k.words, address, value);
-    let cells = choice::number(count, value / 1 % 8, k.cells);
+    let cells = choice::either(count, value / 1 % 8, k.cells);
     Kept {
         settings: settings,
         words: words,

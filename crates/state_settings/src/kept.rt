@@ -3,7 +3,6 @@ ghost use Rattle.std.specs.Prelude.{◌≡◌};
 ghost use Rattle.state_settings.specs.Kept.{settings_ok};
 
 use crate::ranges::may_hold;
-use base::volts;
 use state_parts::profile::Profile;
 use state_parts::settings::Settings;
 
@@ -11,8 +10,8 @@ use state_parts::settings::Settings;
 pub fn settings_ok(p: Profile, s: Settings) -> bool
     ensures { result ≡ settings_ok p s }
 {
-    let volts = volts::millivolts(s.vreg);
-    let least = volts::millivolts(s.vsysmin);
+    let volts = u32::from(s.vreg);
+    let least = u32::from(s.vsysmin);
     let vreg = may_hold(p, 1, volts);
     let ichg = may_hold(p, 2, s.ichg);
     let iprechg = may_hold(p, 3, s.iprechg);

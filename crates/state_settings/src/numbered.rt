@@ -2,7 +2,8 @@
 ghost use Rattle.std.specs.Prelude.{◌≡◌};
 ghost use Rattle.state_settings.specs.Numbered.{held_of, store_of};
 
-use base::{choice, volts};
+use base::units::PackMv;
+use base::choice;
 use state_parts::settings::Settings;
 
 // The number that a setting holds; 0 if there is no such setting.
@@ -17,8 +18,8 @@ pub fn held(s: Settings, number: u32) -> u32
     let lowv = s.lowv;
     let vrechg = s.vrechg;
     let masks = s.masks;
-    let vreg = volts::millivolts(s.vreg);
-    let vsysmin = volts::millivolts(s.vsysmin);
+    let vreg = u32::from(s.vreg);
+    let vsysmin = u32::from(s.vsysmin);
     let enchg = choice::bit(s.enchg);
     let enterm = choice::bit(s.enterm);
     let enhiz = choice::bit(s.enhiz);
@@ -35,22 +36,22 @@ pub fn held(s: Settings, number: u32) -> u32
 pub fn store(s: Settings, number: u32, value: u32) -> Settings
     ensures { result ≡ store_of s number value }
 {
-    let volts = volts::pack(value);
+    let volts = PackMv::from(value);
     let on = value == 1;
-    let vreg = volts::either(number == 1, volts, s.vreg);
-    let ichg = choice::number(number == 2, value, s.ichg);
-    let iprechg = choice::number(number == 3, value, s.iprechg);
-    let iterm = choice::number(number == 4, value, s.iterm);
-    let iindpm = choice::number(number == 5, value, s.iindpm);
-    let vsysmin = volts::either(number == 6, volts, s.vsysmin);
-    let lowv = choice::number(number == 7, value, s.lowv);
-    let vrechg = choice::number(number == 8, value, s.vrechg);
-    let enchg = choice::flag(number == 9, on, s.enchg);
-    let enterm = choice::flag(number == 10, on, s.enterm);
-    let enhiz = choice::flag(number == 11, on, s.enhiz);
-    let enextilim = choice::flag(number == 12, on, s.enextilim);
-    let disstat = choice::flag(number == 13, on, s.disstat);
-    let masks = choice::number(number == 14, value, s.masks);
+    let vreg = choice::either(number == 1, volts, s.vreg);
+    let ichg = choice::either(number == 2, value, s.ichg);
+    let iprechg = choice::either(number == 3, value, s.iprechg);
+    let iterm = choice::either(number == 4, value, s.iterm);
+    let iindpm = choice::either(number == 5, value, s.iindpm);
+    let vsysmin = choice::either(number == 6, volts, s.vsysmin);
+    let lowv = choice::either(number == 7, value, s.lowv);
+    let vrechg = choice::either(number == 8, value, s.vrechg);
+    let enchg = choice::either(number == 9, on, s.enchg);
+    let enterm = choice::either(number == 10, on, s.enterm);
+    let enhiz = choice::either(number == 11, on, s.enhiz);
+    let enextilim = choice::either(number == 12, on, s.enextilim);
+    let disstat = choice::either(number == 13, on, s.disstat);
+    let masks = choice::either(number == 14, value, s.masks);
     Settings {
         vreg: vreg,
         ichg: ichg,

@@ -7,7 +7,6 @@ ghost use Rattle.state_start.specs.Values.{start_sample, start_cycle, start_watc
 
 use base::choice;
 use base::units::{CellMv, PackMv, in_pack};
-use base::volts::{either, pack};
 use state_fields::holding::start_words;
 use state_parts::band::{Bands, TsBand};
 use state_parts::cycle::Cycle;
@@ -26,10 +25,10 @@ pub fn start_vreg(p: Profile, cells: u32) -> PackMv
     ensures { result ≡ start_vreg p cells }
 {
     let fault = (p.vchg == 0) | (cells == 0);
-    let least = pack(2400);
+    let least = PackMv::from(2400);
     let each = pins::vchg(p);
     let full = in_pack(each, cells);
-    either(fault, least, full)
+    choice::either(fault, least, full)
 }
 
 // ICHG's start value.
@@ -38,18 +37,18 @@ pub fn start_ichg(p: Profile) -> u32
 {
     let fault = p.ichg == 0;
     let current = pins::ichg(p);
-    choice::number(fault, 40, current)
+    choice::either(fault, 40, current)
 }
 
 // VSYSMIN's start value at a cell count.
 pub fn start_vsysmin(p: Profile, cells: u32) -> PackMv
     ensures { result ≡ start_vsysmin p cells }
 {
-    let least = pack(3000);
-    let single = pack(3500);
+    let least = PackMv::from(3000);
+    let single = PackMv::from(3500);
     let full = in_pack(CellMv(3100), cells);
-    let some = either(cells == 1, single, full);
-    either(cells == 0, least, some)
+    let some = choice::either(cells == 1, single, full);
+    choice::either(cells == 0, least, some)
 }
 
 // The settings' start values at a cell count.

@@ -23,7 +23,7 @@ fn units(old: Sample, ms: u32) -> u32
     ensures { result ≡ units_of old ms }
 {
     let slow = bits::regulated(old);
-    choice::number(slow, ms, ms * 2)
+    choice::either(slow, ms, ms * 2)
 }
 
 // A stage's time with the units that went to it.
@@ -32,7 +32,7 @@ fn added(held: bool, limit: u32, time: u32, units: u32) -> u32
     ensures { result ≡ added_of held limit time units }
 {
     let counts = held & (limit != 0);
-    choice::number(counts, time + units, time)
+    choice::either(counts, time + units, time)
 }
 
 // The stages' times with the units that went to the one held.

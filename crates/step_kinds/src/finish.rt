@@ -32,7 +32,7 @@ fn observing(way: Way) -> bool
 fn flags_left(address: u32, all: u32) -> u32
     ensures { result ≡ flags_left address all }
 {
-    choice::number(address == 0x20, all / 256 * 256, all % 256)
+    choice::either(address == 0x20, all / 256 * 256, all % 256)
 }
 
 // The flags that are held after the event, of those that it found and raised.

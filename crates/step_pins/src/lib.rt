@@ -26,7 +26,7 @@ fn is_near(nominal: u32, ohms: u32) -> bool
 fn code_or(nominal: u32, code: u32, ohms: u32, higher: u32) -> u32
     ensures { result ≡ pick (matches nominal ohms) code higher }
 {
-    choice::number(is_near(nominal, ohms), code, higher)
+    choice::either(is_near(nominal, ohms), code, higher)
 }
 
 // The lowest code whose resistor is within 2%; 0, a pin fault, if none is.

@@ -12,9 +12,7 @@ ghost use Rattle.step_text.specs.Prints.{last_text, is_over, most_text, print_to
 ghost use Rattle.step_text.specs.PublicPromises.{PrintPromise};
 
 use crate::answer::Print;
-use base::refusal;
 use base::refusal::Refusal;
-use base::written::Written;
 use report_pages::PageLines;
 use report_text::text;
 use report_text::text::EndNumbers;
@@ -23,19 +21,19 @@ use step_event::paging::Stop;
 use step_event::walking::Walk;
 
 // A page's first lines and the last line. The last line is written first, behind the page's place, so that a refusal changes no byte.
-fn ending(out: &mut [u8], lines: PageLines, count: usize, numbers: EndNumbers) -> Written
+fn ending(out: &mut [u8], lines: PageLines, count: usize, numbers: EndNumbers) -> Result<usize, Refusal>
     ensures { (written_told result ≡ written (page_text count lines ++ end_text numbers) out.old) × (out.new ≡ put (page_text count lines ++ end_text numbers) out.old) × (length (page_text count lines) ≤ most_page) }
 {
     let start = report_pages::page_width(lines, count);
     if out.len() < start {
-        return Written::Refused(Refusal::NoRoom);
+        return Err(Refusal::NoRoom);
     }
     match text::end(&mut out[start..], numbers) {
-        Written::Count(bytes) => {
+        Ok(bytes) => {
             report_pages::page(out, lines, count);
-            Written::Count(bytes + start)
+            Ok(bytes + start)
         }
-        Written::Refused(refusal) => Written::Refused(refusal),
+        Err(refusal) => Err(refusal),
     }
 }
 
@@ -47,14 +45,14 @@ fn page(
     number: u32,
     place: usize,
     stop: Stop,
-) -> Written
+) -> Result<usize, Refusal>
     ensures { (written_told result ≡ written (page_text count lines ++ last_text number place (stop_told stop)) out.old) × (out.new ≡ put (page_text count lines ++ last_text number place (stop_told stop)) out.old) × (length (page_text count lines ++ last_text number place (stop_told stop)) ≤ most_text) }
 {
     match stop {
         Stop::Full => report_pages::page(out, lines, count),
         Stop::End => ending(out, lines, count, [number, 0, text::low(place)]),
         Stop::Unreadable(r, start) => {
-            let numbers = [number, refusal::number(r), text::low(start)];
+            let numbers = [number, u32::from(r), text::low(start)];
             ending(out, lines, count, numbers)
         }
     }
@@ -70,12 +68,12 @@ fn is_over(stop: Stop) -> bool
     }
 }
 
-fn told(put: Written, walk: Walk, over: bool) -> Print
+fn told(put: Result<usize, Refusal>, walk: Walk, over: bool) -> Print
     ensures { print_told result ≡ told_by (written_told put) walk over }
 {
     match put {
-        Written::Count(bytes) => Print::Page(bytes, walk, over),
-        Written::Refused(refusal) => Print::Refused(refusal),
+        Ok(bytes) => Print::Page(bytes, walk, over),
+        Err(refusal) => Print::Refused(refusal),
     }
 }
 

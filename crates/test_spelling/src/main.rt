@@ -3,8 +3,6 @@
 
 mod reading;
 
-use base::refusal;
-use base::written::Written;
 use log_event::{Event, kinds};
 use log_record::answer::Read;
 use std::io::Print;
@@ -29,7 +27,7 @@ fn tell(to: &impl Print, got: Read) {
         }
         Read::Refused(r, place) => {
             text(to, b"refused ");
-            let _ = to.print(refusal::number(r));
+            let _ = to.print(u32::from(r));
             text(to, b" at ");
             say(to, place);
         }
@@ -93,13 +91,13 @@ fn changed(buffer: [u8; 64]) -> usize {
 // Written into a lent part: what the writer answers, and what reads back.
 fn written(to: &impl Print, part: &mut [u8], e: Event) {
     match log_record::write(part, e) {
-        Written::Count(n) => {
+        Ok(n) => {
             text(to, b"wrote ");
             say(to, n);
         }
-        Written::Refused(r) => {
+        Err(r) => {
             text(to, b"refused ");
-            let _ = to.print(refusal::number(r));
+            let _ = to.print(u32::from(r));
         }
     }
     text(to, b", ");

@@ -7,8 +7,6 @@ use borrow.Author.Rules.{rules}
 use lib.ListN.{length, get_or, take, drop}
 use lib.Seq.{sets}
 use Rattle.base.specs.Writing.{wrote, written, written_told}
-use Rattle.base.specs.declared.written.Written.{Written}
-use Rattle.base.specs.declared.written.Written.TheVariants.{Count, Refused}
 use Rattle.base.specs.declared.refusal.Refusal.{Refusal}
 use Rattle.base.proofs.Puts.{put-fits, put-short, written-fits, written-short}
 use Rattle.base.proofs.Pieces.{joined, Turn, first-turn, More, one-more, all_done}
@@ -46,18 +44,18 @@ module _ (ls : List Line) (count : ℕ) (few : count ≤ length ls) (first out :
   one = one-more line_of ls count few turn none inside
 
   -- what the call of `text::line` did: the line is written whole
-  put_whole : (numbers : List ℕ) (r : Written) → numbers ≡ numbers_of (get_or ls i none) → written_told r ≡ written (line_text numbers) (take (length out - at) (drop at out)) → written_told r ≡ wrote (length next)
+  put_whole : (numbers : List ℕ) (r : Result ℕ Refusal) → numbers ≡ numbers_of (get_or ls i none) → written_told r ≡ written (line_text numbers) (take (length out - at) (drop at out)) → written_told r ≡ wrote (length next)
   put_whole numbers r e h = one.whole (written_told r) (rw e at h)
 
 -- no line is refused: its room was counted before
-never : (r : Written) (k : ℕ) (why : Refusal) → written_told r ≡ wrote k → r ≡ Refused why → ⊥
+never : (r : Result ℕ Refusal) (k : ℕ) (why : Refusal) → written_told r ≡ wrote k → r ≡ Err why → ⊥
 never r k why o e =
     let t = ap written_told e in
     let z : ◌≡◌ {A = ℕ} 0 1 = cc (o, t) in
     omega arith
 
 -- how many bytes the line took
-took : (r : Written) (k n : ℕ) → written_told r ≡ wrote k → r ≡ Count n → k ≡ n
+took : (r : Result ℕ Refusal) (k n : ℕ) → written_told r ≡ wrote k → r ≡ Ok n → k ≡ n
 took r k n o e = let t = ap written_told e in cc (o, t)
 
 pub returns-then-out-width : goal.returns-then-out-width
@@ -81,7 +79,7 @@ pub overflow_add-at : goal.overflow_add-at
 overflow_add-at c =
     let few = within (goal.at.overflow_add-at c).After-lesser-count in
     let o = put_whole _ _ few _ _ _ _ c.loop-i.invariant c.loop-i-test.true _ _ c.numbers_of.ensures c.line-put.ensures.0 in
-    let long = took _ _ _ o c.in-Count.is in
+    let long = took _ _ _ o c.in-Ok.is in
     let room = one _ _ few _ _ _ _ c.loop-i.invariant c.loop-i-test.true in
     omega (arith, long, room.fits, c.loop-i.invariant.long)
 
@@ -89,7 +87,7 @@ pub loop-i-preserved : goal.loop-i-preserved
 loop-i-preserved c =
     let few = within (goal.at.loop-i-preserved c).After-lesser-count in
     let o = put_whole _ _ few _ _ _ _ c.loop-i.invariant c.loop-i-test.true _ _ c.numbers_of.ensures c.line-put.ensures.0 in
-    (one _ _ few _ _ _ _ c.loop-i.invariant c.loop-i-test.true).next c.line-put.new.out _ (rw c.numbers_of.ensures at c.line-put.ensures.1) (took _ _ _ o c.in-Count.is)
+    (one _ _ few _ _ _ _ c.loop-i.invariant c.loop-i-test.true).next c.line-put.new.out _ (rw c.numbers_of.ensures at c.line-put.ensures.1) (took _ _ _ o c.in-Ok.is)
 
 pub returns : goal.returns
 returns c =

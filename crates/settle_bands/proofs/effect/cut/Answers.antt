@@ -6,4 +6,4 @@ use Rattle.settle_bands.proofs.effect.cut.Goals as goal
 
 pub returns : goal.returns
 unfolding cut_of
-returns c = simp (c.choose_cell.ensures, c.is_warm-warm.ensures, c.of_four-off.ensures, c.jeita_vset-code.ensures, field-mod jeita_vset c.args.registers)
+returns c = simp (c.either.ensures, c.is_warm-warm.ensures, c.of-off.ensures, c.jeita_vset-code.ensures, field-mod jeita_vset c.args.registers)

@@ -20,4 +20,4 @@ pub returns : goal.returns
 unfolding share_of
 returns c =
     let a = c.args in
-    simp (c.share_by_band.ensures, c.number-warm.ensures, c.of_four-cool.ensures, c.jeita_iseth-iseth.ensures, c.jeita_isetc-isetc.ensures, field-mod jeita_isetc a.registers, warm-is a.profile (field_of jeita_iseth a.registers) (omega arith))
+    simp (c.share_by_band.ensures, c.either-warm.ensures, c.of-cool.ensures, c.jeita_iseth-iseth.ensures, c.jeita_isetc-isetc.ensures, field-mod jeita_isetc a.registers, warm-is a.profile (field_of jeita_iseth a.registers) (omega arith))

@@ -4,4 +4,4 @@ use Rattle.settle_levels.proofs.clamps.pack_clamp.Goals as goal
 
 pub returns : goal.returns
 unfolding pack_clamp_of
-returns c = simp (c.in_pack.ensures, c.choose_cell-each.ensures, c.vchg-pin.ensures, c.vchg_override-lifted.ensures)
+returns c = simp (c.in_pack.ensures, c.either-each.ensures, c.vchg-pin.ensures, c.vchg_override-lifted.ensures)

@@ -4,4 +4,4 @@ use Rattle.settle_levels.proofs.voltage.below_recharge.Goals as goal
 
 pub returns : goal.returns
 unfolding below_recharge
-returns c = simp (c.is_below_share.ensures, c.pack-now.ensures, c.of_four-share.ensures)
+returns c = simp (c.is_below_share.ensures, c.pack-now.ensures, c.of-share.ensures)
