@@ -25,14 +25,3 @@ known_on m s t k on e = let good : state_ok s ≡ true = sym (ap model_ok on) �
 pub unknown-on : (m : Model) (s : State) (t : Turn) {ok : Bool} → ok ≡ model_ok m → m ≡ On s → ok ≡ false → refused 5 ≡ change_of m t
 unfolding change_of model_ok
 unknown-on m s t k on e = let bad : state_ok s ≡ false = sym (ap model_ok on) ∙ sym k ∙ e in rw on (simp bad)
-
--- a change that was made, and one that was refused
-pub turned-made : (m : Model) (t : Turn) (made : Change) (written : State) (way : Way) {before : Seen} → before ≡ seen_on m → change_told made ≡ change_of m t
-    → made ≡ Made written way → finish_of before written way ≡ turned_by m t
-unfolding turned_by
-turned-made m t made written way eb told em = rw (← told, em, eb)
-
-pub turned-refused : (m : Model) (t : Turn) (made : Change) (r : Refusal) → change_told made ≡ change_of m t → made ≡ Refused r
-    → refused_with (refusal_number r) m ≡ turned_by m t
-unfolding turned_by
-turned-refused m t made r told em = rw (← told, em)

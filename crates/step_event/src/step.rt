@@ -16,67 +16,72 @@ use state_registers::resetting;
 use state_valid::holds;
 use step_flags::between;
 use step_flags::between::Seen;
-use step_kinds::answer::{Stepped, Verdict};
-use step_kinds::change::{Change, Way};
+use step_kinds::answer::{Finished, Refused};
+use step_kinds::change::Way;
 use step_kinds::{finish, plain};
 use step_turns::later::Later;
 use step_turns::turn;
 use step_turns::turn::Turn;
 
-fn observe(s: State, x: Sample) -> Change
+#[tactic(auto, unfolding(crate::specs::Steps::observe_of))]
+fn observe(s: State, x: Sample) -> Result<(State, Way), Refusal>
     requires { state_ok s ≡ true }
     ensures { change_told result ≡ observe_of s x }
 {
     let ms = stamp::elapsed(s.sample.stamp, x.stamp);
     if 3600000 < ms {
-        return Change::Refused(Refusal::StampAhead);
+        return Err(Refusal::StampAhead);
     }
-    Change::Made(clock::observed(s, x), Way::Observes)
+    Ok((clock::observed(s, x), Way::Observes))
 }
 
 // What follows a power-on, on a model that holds what it may.
-fn follow(s: State, e: Later) -> Change
+#[tactic(auto, unfolding(crate::specs::Steps::followed_of))]
+fn follow(s: State, e: Later) -> Result<(State, Way), Refusal>
     requires { state_ok s ≡ true }
     ensures { change_told result ≡ followed_of s e }
 {
     match e {
         Later::Set(number, value) => plain::set(s, number, value),
         Later::Write(address, byte) => plain::write(s, address, byte),
-        Later::TakeFlags => Change::Made(s, Way::Takes),
+        Later::TakeFlags => Ok((s, Way::Takes)),
         Later::Observe(x) => observe(s, x),
-        Later::Service => Change::Made(plain::serviced(s), Way::Plain),
-        Later::Reset => Change::Made(resetting::reset(s), Way::Plain),
+        Later::Service => Ok((plain::serviced(s), Way::Plain)),
+        Later::Reset => Ok((resetting::reset(s), Way::Plain)),
         Later::WriteRun(address, raw) => plain::write_run(s, address, raw),
         Later::ReadFlags(address) => plain::read_flags(s, address),
     }
 }
 
 // An event on a model that is on and holds what it may.
-fn moved(s: State, t: Turn) -> Change
+#[tactic(auto, unfolding(crate::specs::Steps::moved_of))]
+fn moved(s: State, t: Turn) -> Result<(State, Way), Refusal>
     requires { state_ok s ≡ true }
     ensures { change_told result ≡ moved_of s t }
 {
     match t {
-        Turn::Opens(p) => plain::opened(p),
+        Turn::Opens(p) => Ok(plain::opened(p)),
         Turn::Follows(e) => follow(s, e),
-        Turn::OpensOutside => Change::Refused(Refusal::OutOfRange),
-        Turn::FollowsOutside => Change::Refused(Refusal::OutOfRange),
+        Turn::OpensOutside => Err(Refusal::OutOfRange),
+        Turn::FollowsOutside => Err(Refusal::OutOfRange),
     }
 }
 
 // An event on a model that is off.
-fn first(t: Turn) -> Change
+#[tactic(auto, unfolding(crate::specs::Steps::first_of))]
+fn first(t: Turn) -> Result<(State, Way), Refusal>
     ensures { change_told result ≡ first_of t }
 {
     match t {
-        Turn::Opens(p) => plain::opened(p),
-        Turn::Follows(_) => Change::Refused(Refusal::NotPowered),
-        Turn::OpensOutside => Change::Refused(Refusal::OutOfRange),
-        Turn::FollowsOutside => Change::Refused(Refusal::NotPowered),
+        Turn::Opens(p) => Ok(plain::opened(p)),
+        Turn::Follows(_) => Err(Refusal::NotPowered),
+        Turn::OpensOutside => Err(Refusal::OutOfRange),
+        Turn::FollowsOutside => Err(Refusal::NotPowered),
     }
 }
 
 // Whether a model holds what it may.
+#[tactic(auto, unfolding(crate::specs::Steps::model_ok))]
 pub fn model_ok(m: Model) -> bool
     ensures { result ≡ model_ok m }
 {
@@ -87,7 +92,8 @@ pub fn model_ok(m: Model) -> bool
 }
 
 // What an event writes, on a model of which it is known whether it holds what it may.
-fn change(ok: bool, m: Model, t: Turn) -> Change
+#[tactic(auto, unfolding(crate::specs::Steps::change_of))]
+fn change(ok: bool, m: Model, t: Turn) -> Result<(State, Way), Refusal>
     requires { ok ≡ model_ok m }
     ensures { change_told result ≡ change_of m t }
 {
@@ -97,7 +103,7 @@ fn change(ok: bool, m: Model, t: Turn) -> Change
             if ok {
                 moved(s, t)
             } else {
-                Change::Refused(Refusal::OutOfRange)
+                Err(Refusal::OutOfRange)
             }
         }
     }
@@ -133,20 +139,19 @@ fn seen_on(m: Model) -> Seen
 }
 
 // What a turn comes to, on a model of which it is known whether it holds what it may.
-fn turned(ok: bool, m: Model, t: Turn) -> Verdict
+#[tactic(auto, unfolding(crate::specs::Steps::turned_by))]
+fn turned(ok: bool, m: Model, t: Turn) -> Result<Finished, Refusal>
     requires { ok ≡ model_ok m }
     ensures { verdict_told m result ≡ turned_by m t }
 {
     let before = seen_on(m);
-    let made = change(ok, m, t);
-    match made {
-        Change::Made(written, way) => Verdict::Accepted(finish::finish(before, written, way)),
-        Change::Refused(r) => Verdict::Refused(r),
-    }
+    let (written, way) = change(ok, m, t)?;
+    Ok(finish::finish(before, written, way))
 }
 
 // An event on a model of which it is known whether it holds what it may.
-pub(crate) fn step_known(ok: bool, m: Model, e: Event) -> Verdict
+#[tactic(auto, unfolding(crate::specs::Steps::step_of))]
+pub(crate) fn step_known(ok: bool, m: Model, e: Event) -> Result<Finished, Refusal>
     requires { ok ≡ model_ok m }
     ensures { verdict_told m result ≡ step_of m e }
 {
@@ -154,15 +159,12 @@ pub(crate) fn step_known(ok: bool, m: Model, e: Event) -> Verdict
 }
 
 // One event on the model.
-pub fn step(m: Model, e: Event) -> Stepped
+pub fn step(m: Model, e: Event) -> Result<Finished, Refused>
     ensures { StepPromise m e result }
 {
-    let verdict = step_known(model_ok(m), m, e);
-    match verdict {
-        Verdict::Accepted(f) => {
-            let state = f.state;
-            Stepped::Accepted(state, f.pulse, f.handed)
-        }
-        Verdict::Refused(r) => Stepped::Refused(r, 0, m),
-    }
+    step_known(model_ok(m), m, e).map_err(|refusal| Refused {
+        refusal,
+        place: 0,
+        model: m,
+    })
 }

@@ -1,14 +1,12 @@
 -- 01: what an event comes to, in the paper's terms.
-use Rattle.std.specs.Prelude.{ℕ, Bool, false}
+use Rattle.std.specs.Prelude.{ℕ, Bool, false, Result, Ok, Err}
 use Rattle.base.specs.Refusals.{refusal_number}
+use Rattle.base.specs.declared.refusal.Refusal.{Refusal}
 use Rattle.state_parts.specs.Edges.{no_flags}
 use Rattle.state_parts.specs.declared.state.Model.{Model}
 use Rattle.state_parts.specs.declared.state.Model.TheVariants.{On}
 use Rattle.step_kinds.specs.declared.answer.Finished.{Finished}
-use Rattle.step_kinds.specs.declared.answer.Verdict.{Verdict}
-use Rattle.step_kinds.specs.declared.answer.Verdict.TheVariants as verdict
-use Rattle.step_kinds.specs.declared.answer.Stepped.{Stepped}
-use Rattle.step_kinds.specs.declared.answer.Stepped.TheVariants.{Accepted, Refused}
+use Rattle.step_kinds.specs.declared.answer.Refused.{Refused}
 
 -- its number (0 or the refusal's), the refusal's place, the model after it, whether it pulses, and the flags that it hands back
 pub record Outcome : Type 0 where
@@ -30,10 +28,10 @@ abbrev pub finished_told : Finished → Outcome
 finished_told f = record { number = 0; place = 0; model = On f.state; pulse = f.pulse; handed = f.handed }
 
 -- of a model that its caller still has
-abbrev pub verdict_told : Model → Verdict → Outcome
-verdict_told m (verdict.Accepted f) = finished_told f
-verdict_told m (verdict.Refused r) = refused_with (refusal_number r) m
+abbrev pub verdict_told : Model → Result Finished Refusal → Outcome
+verdict_told m (Ok f) = finished_told f
+verdict_told m (Err r) = refused_with (refusal_number r) m
 
-abbrev pub stepped_told : Stepped → Outcome
-stepped_told (Accepted s pulse handed) = record { number = 0; place = 0; model = On s; pulse = pulse; handed = handed }
-stepped_told (Refused r place m) = refused_at (refusal_number r) place m
+abbrev pub stepped_told : Result Finished Refused → Outcome
+stepped_told (Ok f) = finished_told f
+stepped_told (Err r) = refused_at (refusal_number r.refusal) r.place r.model

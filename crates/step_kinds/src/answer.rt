@@ -10,16 +10,10 @@ pub struct Finished {
     pub handed: u32,
 }
 
-// What an event comes to, for a caller that still has the old model.
+// What a refused event comes to: the refusal, its place and the old model.
 #[derive(Clone, Copy)]
-pub enum Verdict {
-    Accepted(Finished),
-    Refused(Refusal),
-}
-
-// The state after an accepted event, whether it pulses and the flags that it hands back; or the refusal, its place and the old model.
-#[derive(Clone, Copy)]
-pub enum Stepped {
-    Accepted(State, bool, u32),
-    Refused(Refusal, usize, Model),
+pub struct Refused {
+    pub refusal: Refusal,
+    pub place: usize,
+    pub model: Model,
 }

@@ -9,7 +9,7 @@ ghost use Rattle.state_registers.specs.Resets.{reset_of};
 ghost use Rattle.step_kinds.specs.Plain.{serviced_of, acted_of};
 ghost use Rattle.step_kinds.specs.PublicPromises.{OpenedPromise, SetPromise, WritePromise, RunPromise, ReadFlagsPromise};
 
-use crate::change::{Change, Way};
+use crate::change::Way;
 use base::refusal::Refusal;
 use log_raw::RawBytes;
 use report_registers::flags;
@@ -18,18 +18,16 @@ use state_parts::registers::Registers;
 use state_parts::settings::Settings;
 use state_parts::state::State;
 use state_parts::watchdog::Watchdog;
-use state_registers::writing::WriteAnswer;
 use state_registers::{resetting, writing};
 use state_runs::registers::Kept;
 use state_runs::run;
-use state_runs::run::RunAnswer;
 use state_settings::{numbered, ranges};
 
 // A power-on, whatever the model holds.
-pub fn opened(p: Profile) -> Change
+pub fn opened(p: Profile) -> (State, Way)
     ensures { OpenedPromise p result }
 {
-    Change::Made(state_start::start(p), Way::Powers)
+    (state_start::start(p), Way::Powers)
 }
 
 // The state with these settings.
@@ -41,28 +39,28 @@ fn with_settings(s: State, t: Settings) -> State
     r
 }
 
-pub fn set(s: State, number: u32, value: u32) -> Change
+#[tactic(auto, unfolding(crate::specs::Plain::set_of))]
+pub fn set(s: State, number: u32, value: u32) -> Result<(State, Way), Refusal>
     ensures { SetPromise s number value result }
 {
     let profile = s.profile;
     if !ranges::known(profile, number) {
-        return Change::Refused(Refusal::UnknownSetting);
+        return Err(Refusal::UnknownSetting);
     }
     if !ranges::may_hold(profile, number, value) {
-        return Change::Refused(Refusal::BadValue);
+        return Err(Refusal::BadValue);
     }
     let held = s.settings;
     let stored = numbered::store(held, number, value);
-    Change::Made(with_settings(s, stored), Way::Plain)
+    Ok((with_settings(s, stored), Way::Plain))
 }
 
-pub fn write(s: State, address: u32, byte: u32) -> Change
+#[tactic(auto, unfolding(crate::specs::Plain::written_of))]
+pub fn write(s: State, address: u32, byte: u32) -> Result<(State, Way), Refusal>
     ensures { WritePromise s address byte result }
 {
-    match writing::write(s, address, byte) {
-        WriteAnswer::Stored(written) => Change::Made(written, Way::Plain),
-        WriteAnswer::Refused(r) => Change::Refused(r),
-    }
+    let written = writing::write(s, address, byte)?;
+    Ok((written, Way::Plain))
 }
 
 // The state with the watchdog at zero.
@@ -131,22 +129,22 @@ fn acted(s: State, k: Kept, address: u32, raw: RawBytes) -> State
 }
 
 // A run of bytes from an address on.
-pub fn write_run(s: State, address: u32, raw: RawBytes) -> Change
+#[tactic(auto, unfolding(crate::specs::Plain::run_from))]
+pub fn write_run(s: State, address: u32, raw: RawBytes) -> Result<(State, Way), Refusal>
     ensures { RunPromise s address raw result }
 {
-    match run::run(s, address, raw) {
-        RunAnswer::Taken(k) => Change::Made(acted(s, k, address, raw), Way::Plain),
-        RunAnswer::Refused(r) => Change::Refused(r),
-    }
+    let k = run::run(s, address, raw)?;
+    Ok((acted(s, k, address, raw), Way::Plain))
 }
 
 // A read of a flag register.
-pub fn read_flags(s: State, address: u32) -> Change
+#[tactic(auto, unfolding(crate::specs::Plain::read_flags_of))]
+pub fn read_flags(s: State, address: u32) -> Result<(State, Way), Refusal>
     ensures { ReadFlagsPromise s address result }
 {
     let profile = s.profile;
     if !flags::flag_register(profile, address) {
-        return Change::Refused(Refusal::UnknownAddress);
+        return Err(Refusal::UnknownAddress);
     }
-    Change::Made(s, Way::Reads(address))
+    Ok((s, Way::Reads(address)))
 }
