@@ -3,9 +3,9 @@ ghost use Rattle.std.specs.Prelude.{◌+◌, ◌*◌, ◌≡◌};
 ghost use Rattle.c_list.specs.Places.{profile_place, settings_place, registers_place, latches_place, cycle_place, sample_place, bands_place};
 ghost use Rattle.c_list.specs.Back.{profile_from, settings_from, registers_from, latches_from, cycle_from, sample_from, phase_from, band_from, bands_from, state_from};
 
-use base::units::PackMv;
 use crate::list::Numbers;
 use crate::places::{BANDS, CYCLE, FLAGS, LATCHES, PHASE, REGISTERS, SAMPLE, SETTINGS, WATCHDOG};
+use base::units::PackMv;
 use log_number::ibat;
 use state_parts::band::{Bands, TsBand};
 use state_parts::cycle::Cycle;
@@ -40,15 +40,13 @@ fn profile(all: Numbers) -> Profile
 fn settings(all: Numbers) -> Settings
     ensures { result ≡ settings_from all settings_place }
 {
-    let vreg = PackMv::from(all[SETTINGS]);
-    let vsysmin = PackMv::from(all[SETTINGS + 5]);
     Settings {
-        vreg,
+        vreg: PackMv::from(all[SETTINGS]),
         ichg: all[SETTINGS + 1],
         iprechg: all[SETTINGS + 2],
         iterm: all[SETTINGS + 3],
         iindpm: all[SETTINGS + 4],
-        vsysmin,
+        vsysmin: PackMv::from(all[SETTINGS + 5]),
         lowv: all[SETTINGS + 6],
         vrechg: all[SETTINGS + 7],
         enchg: all[SETTINGS + 8] == 1,
@@ -64,7 +62,7 @@ fn settings(all: Numbers) -> Settings
 fn whole(low: u32, high: u32) -> u64
     ensures { result ≡ low + high * 0x100000000 }
 {
-    (low as u64) + (high as u64) * 0x100000000
+    u64::from(low) + u64::from(high) * 0x100000000
 }
 
 fn registers(all: Numbers) -> Registers
@@ -78,7 +76,7 @@ fn registers(all: Numbers) -> Registers
         w4: whole(all[REGISTERS + 8], all[REGISTERS + 9]),
     };
     Registers {
-        words: words,
+        words,
         cells: all[REGISTERS + 10],
     }
 }
@@ -109,19 +107,18 @@ fn cycle(all: Numbers) -> Cycle
 fn sample(all: Numbers) -> Sample
     ensures { result ≡ sample_from all sample_place }
 {
-    let current = ibat::signed(all[SAMPLE + 3]);
     Sample {
         stamp: all[SAMPLE],
         input: all[SAMPLE + 1],
         pack: all[SAMPLE + 2],
-        ibat: current,
+        ibat: ibat::signed(all[SAMPLE + 3]),
         ts: all[SAMPLE + 4],
         secondts: all[SAMPLE + 5],
         bits: all[SAMPLE + 6],
     }
 }
 
-// The phase of a number.
+// The phase of a number. No `From` or `TryFrom`: here each number makes a phase, also one that no phase has, and it is the image's comparison that refuses those (`MadeAgain`).
 fn phase(n: u32) -> Phase
     ensures { result ≡ phase_from n }
 {
@@ -137,7 +134,7 @@ fn phase(n: u32) -> Phase
     }
 }
 
-// The band of a number.
+// The band of a number, likewise.
 fn band(n: u32) -> TsBand
     ensures { result ≡ band_from n }
 {
@@ -153,37 +150,29 @@ fn band(n: u32) -> TsBand
 fn bands(all: Numbers) -> Bands
     ensures { result ≡ bands_from all bands_place }
 {
-    let first = band(all[BANDS]);
-    let second = band(all[BANDS + 1]);
-    Bands { first, second }
+    Bands {
+        first: band(all[BANDS]),
+        second: band(all[BANDS + 1]),
+    }
 }
 
 // The state that numbers make.
+#[tactic(auto, unfolding(crate::specs::Back::state_from))]
 pub fn made(all: Numbers) -> State
     ensures { result ≡ state_from all }
 {
-    let profile = profile(all);
-    let settings = settings(all);
-    let registers = registers(all);
-    let latches = latches(all);
-    let cycle = cycle(all);
-    let watchdog = Watchdog {
-        count: all[WATCHDOG],
-    };
-    let sample = sample(all);
-    let phase = phase(all[PHASE]);
-    let bands = bands(all);
-    let flags = all[FLAGS] % 4096;
     State {
-        profile,
-        settings,
-        registers,
-        latches,
-        cycle,
-        watchdog,
-        sample,
-        phase,
-        bands,
-        flags,
+        profile: profile(all),
+        settings: settings(all),
+        registers: registers(all),
+        latches: latches(all),
+        cycle: cycle(all),
+        watchdog: Watchdog {
+            count: all[WATCHDOG],
+        },
+        sample: sample(all),
+        phase: phase(all[PHASE]),
+        bands: bands(all),
+        flags: all[FLAGS] % 4096,
     }
 }
