@@ -1,16 +1,16 @@
 -- A line's numbers are pieces: each a number's text and the byte after it.
-use Prim.Native.Nat.{ℕ, zero, suc, ◌+◌, ◌≤◌, ◌<◌}
+use Prim.Native.Nat.{ℕ, zero, suc, ◌+◌, ◌<◌}
 use mathlib.Core.Path.{◌≡◌, refl, ap, ◌∙◌}
 use mathlib.Core.List.{List, [], ◌∷◌, ◌++◌, append_assoc}
 use native.Mathlib.Omega.{arith}
 use native.Mathlib.Decide.{dec_lt}
 use native.Mathlib.Numerals.{add-one}
 use lib.Dec.{eqb}
-use lib.ListN.{length, drop, get_or, length-append, drop_of_length-le}
+use lib.ListN.{length, drop, get_or, drop_of_length-le}
 use lib.Seq.{drop-cons}
 use borrow.Author.Tests.{eq-eqb, ne_eqb}
 use Rattle.base.specs.Pick.{pick}
-use Rattle.base.proofs.Pieces.{joined, left, left-all, left-long, none-long, piece_at}
+use Rattle.base.proofs.Pieces.{joined, piece_at}
 use Rattle.report_text.specs.Decimal.{decimal}
 use Rattle.report_text.specs.Text.{byte_after, line_text}
 
@@ -38,18 +38,6 @@ word_at ns i h = rw add-one (go ns i h)
     go [] i h = absurd (omega arith)
     go (n ∷ more) zero h = refl
     go (n ∷ more) (suc i) h = go more i (omega arith)
-
--- what is left of a line, in bytes
-pub word-length : (ns : List ℕ) (i : ℕ) → i < length ns → length (left (words ns) i) ≡ length (decimal (get_or ns i 0)) + 1 + length (left (words ns) (i + 1))
-word-length ns i h =
-    left-long (words ns) i (rw (words_long ns) h)
-    ∙ ap (λ k. k + length (left (words ns) (i + 1))) (ap length (word_at ns i h) ∙ length-append (decimal (get_or ns i 0)) (byte_after (drop (i + 1) ns) ∷ []))
-
-pub none_left : (ns : List ℕ) (i : ℕ) → length ns ≤ i → length (left (words ns) i) ≡ 0
-none_left ns i h = none-long (words ns) i (rw (words_long ns) h)
-
-pub all_left : (ns : List ℕ) → length (left (words ns) 0) ≡ length (line_text ns)
-all_left ns = ap length (left-all (words ns) ∙ line-joined ns)
 
 -- the test for the last number gives the byte after it
 pub after_is : (ns : List ℕ) (i : ℕ) → i < length ns → pick (eqb (i + 1) (length ns)) 10 32 ≡ byte_after (drop (i + 1) ns)

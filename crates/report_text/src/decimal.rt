@@ -8,13 +8,7 @@ ghost use Rattle.report_text.specs.Writing.{over};
 pub fn width(n: u32) -> usize
     ensures { WidthPromise n result }
 {
-    let mut digits: usize = 1;
-    let mut rest = n;
-    while 10 <= rest {
-        rest = rest / 10;
-        digits += 1;
-    }
-    digits
+    if n < 10 { 1 } else { width(n / 10) + 1 }
 }
 
 // Writes a number's text at the start of a part that has room for it, the tens first: how many bytes it took.

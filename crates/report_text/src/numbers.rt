@@ -29,13 +29,7 @@ pub(crate) fn width(numbers: &[u32]) -> usize
     requires { length numbers.now ≤ line_count }
     ensures { (result ≡ length (line_text numbers.now)) × (result ≤ most_line) }
 {
-    let mut total: usize = 0;
-    let mut i: usize = 0;
-    while i < numbers.len() {
-        total += decimal::width(numbers[i]) + 1;
-        i += 1;
-    }
-    total
+    numbers.iter().map(|n| decimal::width(*n) + 1).sum()
 }
 
 // Writes the line: each number is lent the rest of the part from its place on.
@@ -44,9 +38,7 @@ pub(crate) fn put(out: &mut [u8], numbers: &[u32])
     ensures { out.new ≡ over (line_text numbers.now) out.old }
 {
     let mut at: usize = 0;
-    let mut i: usize = 0;
-    while i < numbers.len() {
-        at += put_one(&mut out[at..], numbers[i], after(i + 1 == numbers.len()));
-        i += 1;
+    for (i, n) in numbers.iter().enumerate() {
+        at += put_one(&mut out[at..], *n, after(i + 1 == numbers.len()));
     }
 }

@@ -41,15 +41,12 @@ pub fn line(out: &mut [u8], numbers: LineNumbers) -> Result<usize, Refusal>
 }
 
 // Writes a word at the start of a part that has the room.
+#[tactic(auto, unfolding(crate::specs::Writing::over))]
 fn put_word(out: &mut [u8], word: &[u8])
     requires { length word.now ≤ length out.old }
     ensures { out.new ≡ over word.now out.old }
 {
-    let mut i: usize = 0;
-    while i < word.len() {
-        out[i] = word[i];
-        i += 1;
-    }
+    out[..word.len()].copy_from_slice(word);
 }
 
 // A word, and a line of no more numbers than a record's has in the rest of the part.
@@ -61,16 +58,12 @@ fn headed(out: &mut [u8], word: &[u8], numbers: &[u32]) -> Result<usize, Refusal
     if out.len() < start {
         return Err(Refusal::NoRoom);
     }
-    match whole(&mut out[start..], numbers) {
-        Ok(bytes) => {
-            put_word(out, word);
-            Ok(bytes + start)
-        }
-        Err(refusal) => Err(refusal),
-    }
+    let bytes = whole(&mut out[start..], numbers)?;
+    put_word(out, word);
+    Ok(bytes + start)
 }
 
-// A word and one number.
+// A word and one number. One function for both counts, generic over them, would have to require that no more numbers stand there than in a line.
 pub fn one(out: &mut [u8], word: &[u8], number: u32) -> Result<usize, Refusal>
     ensures { HeadedPromise word.now (number ∷ []) out.old result out.new }
 {
@@ -86,6 +79,7 @@ pub fn three(out: &mut [u8], word: &[u8], numbers: EndNumbers) -> Result<usize, 
 }
 
 // The last line.
+#[tactic(auto, unfolding(crate::specs::Text::end_text))]
 pub fn end(out: &mut [u8], numbers: EndNumbers) -> Result<usize, Refusal>
     ensures { EndPromise numbers out.old result out.new }
 {

@@ -1,10 +1,11 @@
--- `width`: the bytes counted and those of the numbers left are always the line's.
-use native.Mathlib.Omega.{arith}
-use Rattle.report_text.proofs.Turns.{word-length, none_left, all_left}
+-- `width`: a number's digits and the byte after it, summed over the line.
+use Rattle.std.proofs.Common.{◌≡◌, ◌+◌, length, sum_by, rules, arith, ◌∙◌}
+use Rattle.report_text.specs.Decimal.{decimal}
+use Rattle.report_text.proofs.Sizes.{line-sum, line-at-most}
 use Rattle.report_text.proofs.numbers.width.Goals as goal
 
-pub loop-i-preserved : goal.loop-i-preserved
-loop-i-preserved c = omega (arith, c.width.ensures.0, c.width.ensures.1, word-length c.args.numbers.now c.loop-i.i (omega arith))
-
 pub returns : goal.returns
-returns c = omega (arith, none_left c.args.numbers.now c.loop-i.i (omega arith), all_left c.args.numbers.now)
+returns c =
+    let ns = c.args.numbers.now in
+    let sum : c.sum.result ≡ sum_by (λ n. length (decimal n) + 1) ns = search rules in
+    (sum ∙ line-sum ns, omega (arith, sum, line-sum ns, line-at-most ns (λ i. omega (arith, c.type_inv.numbers i))))
