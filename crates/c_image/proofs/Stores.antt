@@ -8,9 +8,8 @@ use lib.Dec.{eqb}
 use lib.ListN.{length, take, drop, get_or, length-drop}
 use lib.Seq.{sets, length-sets, take_all}
 use borrow.Rule.Slice.PartMut.{put_mid}
-use borrow.Author.Tests.{eq-eqb, ne_eqb}
-use Rattle.base.specs.Pick.{pick}
-use Rattle.base.specs.Told.{Told, accepted, refused}
+use borrow.Author.Tests.{ne_eqb}
+use Rattle.base.specs.Told.{Told, refused}
 use Rattle.base.specs.Writing.{put}
 use Rattle.base.proofs.Puts.{put-fits, lent, sets-append}
 use Rattle.state_parts.specs.declared.state.State.{State}
@@ -22,14 +21,14 @@ use Rattle.c_words.proofs.WordLaws.{length-bytes, sets-whole}
 use Rattle.c_words.proofs.Sames.{differ}
 use Rattle.c_list.specs.Back.{state_from}
 use Rattle.c_list.specs.Places.{state_count}
-use Rattle.c_image.specs.Images.{image_length, image_of, model_from, model_in, saved_in}
+use Rattle.c_image.specs.Images.{image_length, image_of, model_from, model_in}
 use Rattle.c_image.proofs.ImageLaws.{image-long}
 
 -- a first word, and the numbers in the rest of a part of an image's length
-pub both-put : (image a b ns : List ℕ) (first : ℕ) → length image ≡ image_length → length ns ≡ state_count → a ≡ put (bytes_of (first ∷ [])) image
+pub both_put : (image a b ns : List ℕ) (first : ℕ) → length image ≡ image_length → length ns ≡ state_count → a ≡ put (bytes_of (first ∷ [])) image
     → b ≡ put (bytes_of ns) (take (length a - 4) (drop 4 a)) → put_mid 4 (length a - 4) a b ≡ bytes_of (first ∷ ns)
 unfolding bytes_of
-both-put image a b ns first l n ea eb =
+both_put image a b ns first l n ea eb =
     let one : a ≡ sets image 0 (bytes_of (first ∷ [])) = ea ∙ sym (put-fits (bytes_of (first ∷ [])) image (omega arith)) in
     let long : length a ≡ image_length = ap length one ∙ length-sets image 0 (bytes_of (first ∷ [])) ∙ l in
     let all = length-bytes ns in
@@ -51,13 +50,9 @@ on_is bytes first all s l e nz ea es =
     rw (es, ea, take_all (length bytes - 4) (drop 4 bytes) (rw length-drop (omega arith)), w, ne_eqb (get_or first 0 0) 0 nz)
 
 -- loading: bytes of another length are no image's
-pub not-long : (bytes : List ℕ) → (length bytes ≡ image_length → ⊥) → ◌≡◌ {A = Told Model} (refused 5) (model_in bytes)
+pub not_long : (bytes : List ℕ) → (length bytes ≡ image_length → ⊥) → ◌≡◌ {A = Told Model} (refused 5) (model_in bytes)
 unfolding model_in
-not-long bytes h = rw (← differ (image_of (model_from bytes)) bytes (λ e. h (sym (ap length e) ∙ image-long (model_from bytes))))
-
-pub loads : (bytes : List ℕ) (m : Model) (t : Bool) → m ≡ model_from bytes → t ≡ same_bytes (image_of m) bytes → model_in bytes ≡ pick t (accepted m) (refused 5)
-unfolding model_in
-loads bytes m t em et = rw (et, em)
+not_long bytes h = rw (← differ (image_of (model_from bytes)) bytes (λ e. h (sym (ap length e) ∙ image-long (model_from bytes))))
 
 -- comparing: a first word's bytes, and those after it
 all-four : (a b c d e : Bool) → (a && (b && (c && (d && e)))) ≡ ((a && (b && (c && (d && true)))) && e)
@@ -67,26 +62,13 @@ all-four true true false d e = refl
 all-four true false c d e = refl
 all-four false b c d e = refl
 
-both-same : (bytes ns : List ℕ) (first : ℕ) → length bytes ≡ image_length
+pub both_same : (bytes ns : List ℕ) (first : ℕ) → length bytes ≡ image_length
     → (same_bytes (bytes_of (first ∷ [])) (take 4 bytes) && same_bytes (bytes_of ns) (take (length bytes - 4) (drop 4 bytes))) ≡ same_bytes (bytes_of (first ∷ ns)) bytes
 unfolding bytes_of same_bytes
-both-same (a ∷ b ∷ c ∷ d ∷ bytes) ns first l =
+both_same (a ∷ b ∷ c ∷ d ∷ bytes) ns first l =
     rw (take_all (length (a ∷ b ∷ c ∷ d ∷ bytes) - 4) bytes (omega arith))
     (sym (all-four (eqb (first % 256) a) (eqb (first / 256 % 256) b) (eqb (first / 65536 % 256) c) (eqb (first / 16777216 % 256) d) (same_bytes (bytes_of ns) bytes)))
-both-same [] ns first l = absurd (let z : 0 ≡ image_length = l in omega arith)
-both-same (a ∷ []) ns first l = absurd (let z : 1 ≡ image_length = l in omega arith)
-both-same (a ∷ b ∷ []) ns first l = absurd (let z : 2 ≡ image_length = l in omega arith)
-both-same (a ∷ b ∷ c ∷ []) ns first l = absurd (let z : 3 ≡ image_length = l in omega arith)
-
-pub holds-both : (bytes ns : List ℕ) (first : ℕ) (begins goes_on r : Bool) → length bytes ≡ image_length → begins ≡ same_bytes (bytes_of (first ∷ [])) (take 4 bytes)
-    → goes_on ≡ same_bytes (bytes_of ns) (take (length bytes - 4) (drop 4 bytes)) → r ≡ (begins && goes_on) → r ≡ same_bytes (bytes_of (first ∷ ns)) bytes
-holds-both bytes ns first begins goes_on r l eb eg er = er ∙ rw (eb, eg) (both-same bytes ns first l)
-
--- saving
-pub long-saved : (bytes : List ℕ) (m : Model) → length bytes ≡ image_length → (true ≡ eqb (length bytes) image_length) × (image_of m ≡ saved_in bytes m)
-unfolding saved_in
-long-saved bytes m h = let e = eq-eqb (length bytes) image_length h in (sym e, rw e)
-
-pub other-saved : (bytes : List ℕ) (m : Model) → (length bytes ≡ image_length → ⊥) → (false ≡ eqb (length bytes) image_length) × (bytes ≡ saved_in bytes m)
-unfolding saved_in
-other-saved bytes m h = let e = ne_eqb (length bytes) image_length h in (sym e, rw e)
+both_same [] ns first l = absurd (let z : 0 ≡ image_length = l in omega arith)
+both_same (a ∷ []) ns first l = absurd (let z : 1 ≡ image_length = l in omega arith)
+both_same (a ∷ b ∷ []) ns first l = absurd (let z : 2 ≡ image_length = l in omega arith)
+both_same (a ∷ b ∷ c ∷ []) ns first l = absurd (let z : 3 ≡ image_length = l in omega arith)

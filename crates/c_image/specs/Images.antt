@@ -1,5 +1,5 @@
 -- The header: "a head holds the model as an image, a plain array of bytes of its own".
-use Rattle.std.specs.Prelude.{ℕ, zero, suc, ◌+◌, ◌*◌, Bool, List, [], ◌∷◌, length, drop, eqb}
+use Rattle.std.specs.Prelude.{ℕ, zero, suc, ◌+◌, ◌*◌, Bool, List, [], ◌∷◌, length, drop, eqb, Option, Some, None}
 use Rattle.base.specs.Pick.{pick}
 use Rattle.base.specs.Told.{Told, accepted, refused}
 use Rattle.state_parts.specs.declared.state.Model.{Model}
@@ -9,8 +9,6 @@ use Rattle.c_words.specs.Same.{same_bytes}
 use Rattle.c_list.specs.Places.{state_count}
 use Rattle.c_list.specs.Numbers.{state_numbers}
 use Rattle.c_list.specs.Back.{state_from}
-use Rattle.c_image.specs.declared.Loaded.{Loaded}
-use Rattle.c_image.specs.declared.Loaded.TheVariants.{Held, NoImage}
 
 abbrev pub zeros : ℕ → List ℕ
 zeros zero = []
@@ -36,9 +34,9 @@ model_from bytes = pick (eqb (word_at bytes 0) 0) Off (On (state_from (words_in 
 unfoldable pub model_in : List ℕ → Told Model
 model_in bytes = pick (same_bytes (image_of (model_from bytes)) bytes) (accepted (model_from bytes)) (refused 5)
 
-abbrev pub loaded_told : Loaded → Told Model
-loaded_told (Held m) = accepted m
-loaded_told NoImage = refused 5
+abbrev pub loaded_told : Option Model → Told Model
+loaded_told (Some m) = accepted m
+loaded_told None = refused 5
 
 -- four bytes to a word: the first word's and those of the state's numbers
 abbrev pub image_length : ℕ

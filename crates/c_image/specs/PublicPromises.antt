@@ -1,11 +1,10 @@
 -- What loading and saving an image promise, and that each promise allows one outcome.
-use Rattle.std.specs.Prelude.{ℕ, ◌≡◌, Bool, List}
+use Rattle.std.specs.Prelude.{ℕ, ◌≡◌, Bool, List, Option}
 use Rattle.base.specs.Outcomes.{One, OfTwo}
 use Rattle.state_parts.specs.declared.state.Model.{Model}
 use Rattle.c_image.specs.Images.{loaded_told, model_in, is_long, saved_in}
-use Rattle.c_image.specs.declared.Loaded.{Loaded}
 
-abbrev pub LoadPromise : List ℕ → Loaded → Type 0
+abbrev pub LoadPromise : List ℕ → Option Model → Type 0
 LoadPromise image r = loaded_told r ≡ model_in image
 
 abbrev pub SavePromise : List ℕ → Model → Bool → List ℕ → Type 0
