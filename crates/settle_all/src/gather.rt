@@ -25,6 +25,7 @@ fn is_bad(profile: Profile, sample: Sample, latches: Latches, cycle: Cycle) -> b
 }
 
 // Each test by its own function.
+#[tactic(auto, unfolding(crate::specs::Gather::tests_of))]
 pub(crate) fn gather(state: State, latches: Latches, band: Band, observed: bool) -> Tests
     ensures { result ≡ tests_of state latches band observed }
 {

@@ -22,6 +22,7 @@ fn stored(fault: bool, settings: Settings) -> Settings
 }
 
 // The state with that EN_CHG.
+#[tactic(auto, unfolding(crate::specs::Settle::forced_of))]
 fn forced(state: State) -> State
     ensures { result ≡ forced_of state }
 {
@@ -36,6 +37,7 @@ fn forced(state: State) -> State
 }
 
 // The state by what was found.
+#[tactic(auto, unfolding(crate::specs::Settle::settled_of))]
 fn settled(state: State, latches: Latches, bands: Bands, t: Tests) -> State
     ensures { result ≡ settled_of state latches bands t }
 {
@@ -63,6 +65,7 @@ fn settled(state: State, latches: Latches, bands: Bands, t: Tests) -> State
 }
 
 // Settles on the held sample; `observed` says that an observation asks for it.
+#[tactic(auto, unfolding(crate::specs::Settle::settle_of))]
 pub fn settle(state: State, observed: bool) -> State
     ensures { result ≡ settle_of state observed }
 {

@@ -1,7 +1,7 @@
 -- 02, R-7: "New packs have one at each end. The sample gets a second TS value, judged by the same registers." What two thermistors' bands come to.
-use Rattle.std.specs.Prelude.{ℕ, Bool, ◌&&◌, ◌||◌, [], ◌∷◌, eqb}
-use Rattle.base.specs.Pick.{pick, whose}
-use Rattle.state_parts.specs.Numbers.{ts_band_number, band_number}
+use Rattle.std.specs.Prelude.{Bool, ◌&&◌, ◌||◌, eqb}
+use Rattle.base.specs.Pick.{pick}
+use Rattle.state_parts.specs.Numbers.{ts_band_number}
 use Rattle.state_parts.specs.declared.band.Band.{Band}
 use Rattle.state_parts.specs.declared.band.Band.TheVariants.{Normal, Cold, Cool, Warm, Hot, Mixed}
 use Rattle.state_parts.specs.declared.band.Bands.{Bands}
@@ -25,7 +25,3 @@ joined_of a b = first_joined (either ts.Cold a b) (either ts.Hot a b) (either ts
 -- of what is held
 abbrev pub pack_band : Bands → Band
 pack_band b = joined_of b.first b.second
-
--- the pack's band of a number
-abbrev pub pack_from : ℕ → Band
-pack_from n = whose band_number n (Normal ∷ Cold ∷ Hot ∷ Cool ∷ Warm ∷ []) Mixed

@@ -14,15 +14,14 @@ fn suspended_in(band: Band, stopscool: bool, stopswarm: bool) -> bool
 {
     match band {
         Band::Normal => false,
-        Band::Cold => true,
         Band::Cool => stopscool,
         Band::Warm => stopswarm,
-        Band::Hot => true,
-        Band::Mixed => true,
+        Band::Cold | Band::Hot | Band::Mixed => true,
     }
 }
 
 // Whether a band suspends the charge.
+#[tactic(auto, unfolding(crate::specs::Effect::suspends_of))]
 pub fn suspends(profile: Profile, registers: Registers, band: Band) -> bool
     ensures { result ≡ suspends_of profile registers band }
 {
@@ -35,12 +34,9 @@ fn share_by_band(band: Band, cool: u32, warm: u32) -> u32
     ensures { result ≡ share_by_band band cool warm }
 {
     match band {
-        Band::Normal => 100,
-        Band::Cold => 100,
         Band::Cool => cool,
         Band::Warm => warm,
-        Band::Hot => 100,
-        Band::Mixed => 100,
+        _ => 100,
     }
 }
 
@@ -58,14 +54,7 @@ pub fn share(profile: Profile, registers: Registers, band: Band) -> u32
 fn is_warm(band: Band) -> bool
     ensures { result ≡ is_warm band }
 {
-    match band {
-        Band::Normal => false,
-        Band::Cold => false,
-        Band::Cool => false,
-        Band::Warm => true,
-        Band::Hot => false,
-        Band::Mixed => false,
-    }
+    band == Band::Warm
 }
 
 // What a band takes off each cell's voltage.

@@ -1,11 +1,10 @@
 // What a thermistor's band becomes: the second edition of the pack's sheet holds one until TS is well back.
 ghost use Rattle.std.specs.Prelude.{◌≡◌};
-ghost use Rattle.base.specs.Pick.{pick};
 ghost use Rattle.settle_bands.specs.Holding.{by_held, back_by, ended_by, at_once, stays_by, next_by, bands_of};
 
+use crate::thresholds;
 use crate::thresholds::Marks;
-use crate::{joined, thresholds};
-use state_parts::band;
+use base::choice;
 use state_parts::band::{Bands, TsBand};
 use state_parts::profile::Profile;
 use state_parts::registers::Registers;
@@ -52,18 +51,11 @@ fn is_ended(m: Marks, held: TsBand) -> bool
 fn at_once(fresh: TsBand) -> bool
     ensures { result ≡ at_once fresh }
 {
-    let number = band::ts_number(fresh);
-    (number == joined::COLD) | (number == joined::HOT)
-}
-
-// The band held, if it stays; else the one judged afresh.
-fn either(stays: bool, held: TsBand, fresh: TsBand) -> TsBand
-    ensures { result ≡ pick stays held fresh }
-{
-    if stays { held } else { fresh }
+    matches!(fresh, TsBand::Cold | TsBand::Hot)
 }
 
 // One thermistor's next band.
+#[tactic(auto, unfolding(crate::specs::Holding::next_by, crate::specs::Holding::stays_by))]
 fn next(holds: bool, m: Marks, held: TsBand, ts: u32) -> TsBand
     ensures { result ≡ next_by holds m held ts }
 {
@@ -72,13 +64,14 @@ fn next(holds: bool, m: Marks, held: TsBand, ts: u32) -> TsBand
         let once = at_once(fresh);
         let ended = is_ended(m, held);
         let back = is_back(m, held, ts);
-        either(!once & !ended & !back, held, fresh)
+        choice::either(!once & !ended & !back, held, fresh)
     } else {
         fresh
     }
 }
 
 // The next band of each thermistor.
+#[tactic(auto, unfolding(crate::specs::Holding::bands_of, crate::specs::Holding::next_of))]
 pub fn bands(profile: Profile, registers: Registers, sample: Sample, held: Bands) -> Bands
     ensures { result ≡ bands_of profile registers sample held }
 {

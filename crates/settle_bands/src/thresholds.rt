@@ -67,6 +67,7 @@ fn first_band(off: bool, cold: bool, hot: bool, cool: bool, warm: bool) -> TsBan
 }
 
 // The marks that the registers hold.
+#[tactic(auto, unfolding(crate::specs::Thresholds::marks_of))]
 pub fn marks_in(profile: Profile, registers: Registers) -> Marks
     ensures { result ≡ marks_of profile registers }
 {
@@ -87,6 +88,7 @@ pub fn marks_in(profile: Profile, registers: Registers) -> Marks
 }
 
 // The band of one TS value.
+#[tactic(auto, unfolding(crate::specs::Thresholds::band_by))]
 pub fn band_at(m: Marks, ts: u32) -> TsBand
     ensures { result ≡ band_by m ts }
 {

@@ -2,9 +2,8 @@
 ghost use Rattle.std.specs.Prelude.{◌≡◌};
 ghost use Rattle.settle_levels.specs.Clamps.{fault_of, pack_clamp_of, base_of};
 
-use base::choice;
-use base::units;
 use base::units::{CellMv, PackMv};
+use base::{choice, units};
 use state_fields::named;
 use state_parts::pins;
 use state_parts::profile::Profile;
@@ -12,6 +11,7 @@ use state_parts::registers::Registers;
 use state_parts::settings::Settings;
 
 // Whether a pin's code stands for a fault that no override lifts.
+#[tactic(auto, unfolding(crate::specs::Clamps::fault_of))]
 pub fn pin_fault(profile: Profile, registers: Registers) -> bool
     ensures { result ≡ fault_of profile registers }
 {
@@ -22,6 +22,7 @@ pub fn pin_fault(profile: Profile, registers: Registers) -> bool
 }
 
 // What the pack may be charged to at most.
+#[tactic(auto, unfolding(crate::specs::Clamps::pack_clamp_of))]
 fn pack_clamp(profile: Profile, registers: Registers) -> PackMv
     ensures { result ≡ pack_clamp_of profile registers }
 {
@@ -34,6 +35,7 @@ fn pack_clamp(profile: Profile, registers: Registers) -> PackMv
 }
 
 // The base voltage, before any band's cut.
+#[tactic(auto, unfolding(crate::specs::Clamps::base_of))]
 pub fn base(profile: Profile, settings: Settings, registers: Registers) -> PackMv
     ensures { result ≡ base_of profile settings registers }
 {

@@ -2,10 +2,9 @@
 ghost use Rattle.std.specs.Prelude.{◌≡◌};
 ghost use Rattle.settle_levels.specs.Comparators.{held, good_of, input_ok_of, input_over_of, short_returns, short_ends, short_of, low_returns, low_ends, low_of, pack_over_of, latches_of};
 
-use base::choice;
 use crate::clamps;
 use base::units::{CellMv, PackMv};
-use base::{entry, units};
+use base::{choice, entry, units};
 use state_parts::latches::Latches;
 use state_parts::profile::Profile;
 use state_parts::registers::Registers;
@@ -43,6 +42,7 @@ fn short_ends(profile: Profile, registers: Registers) -> CellMv
     choice::either(registers.cells <= 2, CellMv(2150), CellMv(2200))
 }
 
+#[tactic(auto, unfolding(crate::specs::Comparators::short_of))]
 fn short(profile: Profile, registers: Registers, sample: Sample, was: bool) -> bool
     ensures { result ≡ short_of profile registers sample was }
 {
@@ -69,6 +69,7 @@ fn low_returns(profile: Profile, settings: Settings) -> u32
     low_ends(profile, settings) - 50
 }
 
+#[tactic(auto, unfolding(crate::specs::Comparators::low_of))]
 fn low(profile: Profile, settings: Settings, base: PackMv, sample: Sample, was: bool) -> bool
     ensures { result ≡ low_of profile settings base sample was }
 {
@@ -78,6 +79,7 @@ fn low(profile: Profile, settings: Settings, base: PackMv, sample: Sample, was: 
     hold(begins, stays, was)
 }
 
+#[tactic(auto, unfolding(crate::specs::Comparators::pack_over_of))]
 fn pack_over(profile: Profile, base: PackMv, sample: Sample, was: bool) -> bool
     ensures { result ≡ pack_over_of profile base sample was }
 {
@@ -88,6 +90,7 @@ fn pack_over(profile: Profile, base: PackMv, sample: Sample, was: bool) -> bool
 }
 
 // All five at a sample; a pin fault decides the battery's three.
+#[tactic(auto, unfolding(crate::specs::Comparators::latches_of))]
 pub fn latches(
     profile: Profile,
     settings: Settings,

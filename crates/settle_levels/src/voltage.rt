@@ -13,6 +13,7 @@ use state_parts::sample::Sample;
 use state_parts::settings::Settings;
 
 // The voltage that the pack is charged to in a band.
+#[tactic(auto, unfolding(crate::specs::Voltage::charge_voltage_of))]
 pub fn charge_voltage(
     profile: Profile,
     settings: Settings,
@@ -29,6 +30,7 @@ pub fn charge_voltage(
 }
 
 // Whether VBAT is so near the charge voltage that the current tapers.
+#[tactic(auto, unfolding(crate::specs::Voltage::taper_of))]
 pub fn tapers(charge: PackMv, sample: Sample) -> bool
     ensures { result ≡ taper_of charge sample }
 {
@@ -37,6 +39,7 @@ pub fn tapers(charge: PackMv, sample: Sample) -> bool
 }
 
 // Whether VBAT is below the recharge point, a share of the charge voltage.
+#[tactic(auto, unfolding(crate::specs::Voltage::below_recharge))]
 pub fn below_recharge(profile: Profile, settings: Settings, charge: PackMv, sample: Sample) -> bool
     ensures { result ≡ below_recharge profile settings charge sample }
 {

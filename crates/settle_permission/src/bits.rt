@@ -47,6 +47,7 @@ pub fn shutdown(sample: Sample) -> bool
 }
 
 // Any regulation: of the input's current, of its voltage, or thermal.
+#[tactic(auto, unfolding(crate::specs::Bits::regulated_of))]
 pub fn regulated(sample: Sample) -> bool
     ensures { result ≡ regulated_of sample }
 {

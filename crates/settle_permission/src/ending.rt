@@ -15,6 +15,7 @@ fn below_term(settings: Settings, sample: Sample) -> bool
 }
 
 // Whether settings and sample let a charge end.
+#[tactic(auto, unfolding(crate::specs::Ending::ending_of))]
 pub fn may_end(settings: Settings, sample: Sample) -> bool
     ensures { result ≡ ending_of settings sample }
 {

@@ -15,6 +15,7 @@ fn limit_reached(limit: u32, units: u32) -> bool
 }
 
 // Whether any stage has reached its limit.
+#[tactic(auto, unfolding(crate::specs::Limits::reached_of))]
 pub fn any_reached(profile: Profile, cycle: Cycle) -> bool
     ensures { result ≡ reached_of profile cycle }
 {

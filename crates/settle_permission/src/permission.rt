@@ -21,6 +21,7 @@ fn high_impedance(settings: Settings, sample: Sample) -> bool
 }
 
 // All that a charge needs, whatever the battery and its temperature.
+#[tactic(auto, unfolding(crate::specs::Permission::permitted_of))]
 pub fn permitted(
     profile: Profile,
     settings: Settings,

@@ -8,6 +8,7 @@ use base::choice;
 use state_parts::cycle::Cycle;
 
 // The cycle after a settling.
+#[tactic(auto, unfolding(crate::specs::Cycles::cycle_of))]
 pub fn after(t: Tests, was: Cycle) -> Cycle
     ensures { result ≡ cycle_of t was }
 {

@@ -1,25 +1,16 @@
 // The judged order of phases, and when a charge is done, starts again or is cleared: by the tests alone.
 ghost use Rattle.std.specs.Prelude.{◌≡◌};
-ghost use Rattle.base.specs.Pick.{pick};
 ghost use Rattle.settle_phases.specs.Order.{is_taper, first_phase, judged_of, restarts_of, clears_of, ends_of, phase_of};
 
 use crate::tests::Tests;
+use base::choice;
 use state_parts::phase::Phase;
 
 // Whether a phase is taper.
 pub fn is_taper(phase: Phase) -> bool
     ensures { result ≡ is_taper phase }
 {
-    match phase {
-        Phase::Idle => false,
-        Phase::Trickle => false,
-        Phase::Precharge => false,
-        Phase::Fast => false,
-        Phase::Taper => true,
-        Phase::Done => false,
-        Phase::Suspended => false,
-        Phase::Fault => false,
-    }
+    phase == Phase::Taper
 }
 
 // The first phase whose test holds.
@@ -54,6 +45,7 @@ fn first_phase(
 }
 
 // The phase before the end of a charge is judged.
+#[tactic(auto, unfolding(crate::specs::Order::judged_of))]
 fn judged(t: Tests) -> Phase
     ensures { result ≡ judged_of t }
 {
@@ -69,6 +61,7 @@ fn judged(t: Tests) -> Phase
 }
 
 // Whether a done charge starts again.
+#[tactic(auto, unfolding(crate::specs::Order::restarts_of))]
 fn restarts(t: Tests) -> bool
     ensures { result ≡ restarts_of t }
 {
@@ -76,6 +69,7 @@ fn restarts(t: Tests) -> bool
 }
 
 // Whether the cycle's times and done are cleared.
+#[tactic(auto, unfolding(crate::specs::Order::clears_of))]
 pub(crate) fn clears(t: Tests) -> bool
     ensures { result ≡ clears_of t }
 {
@@ -85,6 +79,7 @@ pub(crate) fn clears(t: Tests) -> bool
 }
 
 // Whether the charge is done from here on.
+#[tactic(auto, unfolding(crate::specs::Order::ends_of))]
 pub(crate) fn ends(t: Tests) -> bool
     ensures { result ≡ ends_of t }
 {
@@ -94,17 +89,12 @@ pub(crate) fn ends(t: Tests) -> bool
     tapers & ready
 }
 
-fn choose_phase(test: bool, first: Phase, second: Phase) -> Phase
-    ensures { result ≡ pick test first second }
-{
-    if test { first } else { second }
-}
-
 // The phase that settling comes to.
+#[tactic(auto, unfolding(crate::specs::Order::phase_of))]
 pub fn phase(t: Tests) -> Phase
     ensures { result ≡ phase_of t }
 {
     let done = ends(t);
     let other = judged(t);
-    choose_phase(done, Phase::Done, other)
+    choice::either(done, Phase::Done, other)
 }

@@ -1,16 +1,9 @@
 // Bits of a word, and of the words that hold the map.
 ghost use Rattle.std.specs.Prelude.{◌≡◌, ◌+◌, ◌≤◌, ◌<◌, ◌^◌, ◌%◌};
-ghost use Rattle.base.specs.Pick.{pick};
 ghost use Rattle.state_fields.specs.Words.{bits_at, put_at, word_at, with_word, bits_in, put_in, no_words};
 
+use base::choice;
 use state_parts::words::Words;
-
-// The first word if the test holds, else the other.
-fn either(test: bool, one: u64, other: u64) -> u64
-    ensures { result ≡ pick test one other }
-{
-    if test { one } else { other }
-}
 
 // The word of this number; the numbers go round.
 fn word(w: Words, number: u32) -> u64
@@ -26,14 +19,15 @@ fn word(w: Words, number: u32) -> u64
 }
 
 // The words with another one at this number.
+#[tactic(auto, unfolding(crate::specs::Words::with_word))]
 fn with_word(w: Words, number: u32, x: u64) -> Words
     ensures { result ≡ with_word w number x }
 {
-    let w0 = either(number == 0, x, w.w0);
-    let w1 = either(number == 1, x, w.w1);
-    let w2 = either(number == 2, x, w.w2);
-    let w3 = either(number == 3, x, w.w3);
-    let w4 = either(number == 4, x, w.w4);
+    let w0 = choice::either(number == 0, x, w.w0);
+    let w1 = choice::either(number == 1, x, w.w1);
+    let w2 = choice::either(number == 2, x, w.w2);
+    let w3 = choice::either(number == 3, x, w.w3);
+    let w4 = choice::either(number == 4, x, w.w4);
     Words {
         w0: w0,
         w1: w1,
@@ -80,6 +74,7 @@ pub(crate) fn get(w: Words, at: u32, width: u32) -> u64
 }
 
 // The map with other bits there.
+#[tactic(auto, unfolding(crate::specs::Words::put_in))]
 pub(crate) fn put(w: Words, at: u32, width: u32, code: u64) -> Words
     requires { (at % 64 + width ≤ 64) × (width < 64) }
     ensures { result ≡ put_in at width code w }

@@ -40,6 +40,7 @@ pub fn words_ok(p: Profile, w: Words) -> bool
 }
 
 // The stored fields at their resets.
+#[tactic(auto, unfolding(state_table::specs::Rows::fields, state_table::specs::Rows::fields_of, crate::specs::Held::gathered, crate::specs::Words::put_at, crate::specs::Words::put_in, crate::specs::Held::start_words, crate::specs::Words::with_word))]
 pub fn start_words(p: Profile) -> Words
     ensures { result ≡ start_words p }
 {
@@ -66,6 +67,7 @@ pub fn restored(p: Profile, w: Words) -> Words
 }
 
 // The words with all three overrides cleared.
+#[tactic(auto, unfolding(crate::specs::Held::without_overrides))]
 pub fn without_overrides(w: Words) -> Words
     ensures { result ≡ without_overrides w }
 {

@@ -14,18 +14,7 @@ use state_table::{Access, row_at, rows_below};
 pub fn is_stored(access: Access) -> bool
     ensures { result ≡ is_stored access }
 {
-    match access {
-        Access::Reserved => false,
-        Access::Fixed(_) => false,
-        Access::Status(_) => false,
-        Access::Flag(_, _) => false,
-        Access::Stored => true,
-        Access::Setting(_, _) => false,
-        Access::Mask(_, _) => false,
-        Access::Counted => false,
-        Access::Pin(_) => false,
-        Access::Acts(_) => false,
-    }
+    matches!(access, Access::Stored)
 }
 
 // The words with a field's code of the register's value, if the field is stored.

@@ -25,6 +25,7 @@ pub struct Edges {
 impl From<Edges> for u32 {
     ghost from_gives = { λ e n. n ≡ flags_number e };
 
+    #[tactic(auto, unfolding(crate::specs::Edges::flags_number))]
     fn from(e: Edges) -> u32 {
         let bit0 = bit(e.good);
         let bit1 = bit(e.lost);
@@ -53,6 +54,7 @@ impl From<Edges> for u32 {
 }
 
 // The held flags and an event's edges.
+#[tactic(auto, unfolding(crate::specs::Edges::merged))]
 pub fn merge(held: u32, edges: Edges) -> u32
     ensures { result ≡ merged held edges }
 {

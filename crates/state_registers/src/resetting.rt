@@ -11,6 +11,7 @@ use state_parts::state::State;
 use state_start::{start_cycle, start_settings, start_watchdog};
 
 // The registers after a reset: the cell count stays, and what the sheet doesn't mark.
+#[tactic(auto, unfolding(crate::specs::Resets::reset_registers))]
 fn restore(p: Profile, g: Registers) -> Registers
     ensures { result ≡ reset_registers p g }
 {
@@ -21,6 +22,7 @@ fn restore(p: Profile, g: Registers) -> Registers
 }
 
 // The state with these registers after a register reset, before it settles.
+#[tactic(auto, unfolding(crate::specs::Resets::reset_of))]
 pub fn reset_with(s: State, g: Registers) -> State
     ensures { result ≡ reset_of (with_registers s g) }
 {

@@ -4,9 +4,9 @@ ghost use Rattle.base.specs.Pick.{pick};
 ghost use Rattle.state_registers.specs.Writes.{known_address, count_taken, recounted, written_to};
 ghost use Rattle.state_registers.specs.PublicPromises.{WritePromise};
 
+use base::choice;
 use base::refusal::Refusal;
 use base::units::in_pack;
-use base::choice;
 use state_fields::named;
 use state_fields::taking::taken;
 use state_parts::pins;
@@ -35,6 +35,7 @@ pub fn count_taken(g: Registers, address: u32, byte: u32) -> bool
 
 // The settings with a written cell count, where that is taken. The two that go by it are chosen one by one: a choice between whole settings lays both of them, and the state that one
 // is part of, on the stack.
+#[tactic(auto, unfolding(crate::specs::Writes::recounted))]
 pub fn recount(count: bool, p: Profile, cells: u32, t: Settings) -> Settings
     ensures { result ≡ pick count (recounted p cells t) t }
 {
@@ -51,6 +52,7 @@ pub fn recount(count: bool, p: Profile, cells: u32, t: Settings) -> Settings
 }
 
 // The state after a write that isn't refused.
+#[tactic(auto, unfolding(crate::specs::Writes::written_registers, crate::specs::Writes::written_to))]
 fn written(s: State, address: u32, byte: u32) -> State
     ensures { result ≡ written_to s address byte }
 {

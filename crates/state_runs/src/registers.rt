@@ -135,6 +135,7 @@ pub fn bad_register(p: Profile, address: u32, value: u32) -> bool
 }
 
 // What a register that takes a value leaves; `before` is what stood before the run.
+#[tactic(auto, unfolding(crate::specs::Registers::register_taken))]
 pub fn register_taken(p: Profile, before: Registers, address: u32, value: u32, k: Kept) -> Kept
     ensures { result ≡ register_taken p before address value k }
 {

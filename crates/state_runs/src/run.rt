@@ -17,6 +17,7 @@ use state_parts::state::State;
 use state_table::rows_below;
 
 // Whether an address is the middle of a register.
+#[tactic(auto, unfolding(state_table::specs::Rows::fields_of))]
 fn in_middle(p: Profile, address: u32) -> bool
     ensures { result ≡ in_middle p address }
 {
@@ -58,6 +59,7 @@ fn bad_frequency(p: Profile, first: u32, raw: RawBytes) -> bool
 }
 
 // Whether REG_RST is written 1.
+#[tactic(auto, unfolding(crate::specs::Runs::resets))]
 pub fn resets(first: u32, raw: RawBytes) -> bool
     ensures { result ≡ resets first (raw_of raw) }
 {
@@ -67,6 +69,7 @@ pub fn resets(first: u32, raw: RawBytes) -> bool
 }
 
 // Whether WD_RST is written 1.
+#[tactic(auto, unfolding(crate::specs::Runs::serves))]
 pub fn serves(first: u32, raw: RawBytes) -> bool
     ensures { result ≡ serves first (raw_of raw) }
 {

@@ -21,6 +21,7 @@ use state_parts::state::State;
 use state_parts::watchdog::Watchdog;
 
 // VREG's start value at a cell count.
+#[tactic(auto, unfolding(crate::specs::Values::start_vreg))]
 pub fn start_vreg(p: Profile, cells: u32) -> PackMv
     ensures { result ≡ start_vreg p cells }
 {
@@ -32,6 +33,7 @@ pub fn start_vreg(p: Profile, cells: u32) -> PackMv
 }
 
 // ICHG's start value.
+#[tactic(auto, unfolding(crate::specs::Values::start_ichg))]
 pub fn start_ichg(p: Profile) -> u32
     ensures { result ≡ start_ichg p }
 {
@@ -41,6 +43,7 @@ pub fn start_ichg(p: Profile) -> u32
 }
 
 // VSYSMIN's start value at a cell count.
+#[tactic(auto, unfolding(crate::specs::Values::start_vsysmin))]
 pub fn start_vsysmin(p: Profile, cells: u32) -> PackMv
     ensures { result ≡ start_vsysmin p cells }
 {
@@ -52,6 +55,7 @@ pub fn start_vsysmin(p: Profile, cells: u32) -> PackMv
 }
 
 // The settings' start values at a cell count.
+#[tactic(auto, unfolding(crate::specs::Values::start_settings))]
 pub fn start_settings(p: Profile, cells: u32) -> Settings
     ensures { result ≡ start_settings p cells }
 {
@@ -145,6 +149,7 @@ pub fn start_bands() -> Bands
 }
 
 // What a power-on begins with, before it settles.
+#[tactic(auto, unfolding(crate::specs::Values::start_state))]
 pub fn start(p: Profile) -> State
     ensures { result ≡ start_state p }
 {

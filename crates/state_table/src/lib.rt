@@ -218,6 +218,7 @@ fn access_by(kind: u32, first: u32, second: u32) -> Access
 }
 
 // A row of its number.
+#[tactic(auto, unfolding(crate::specs::Packed::row_by))]
 fn row_by(n: u64) -> Row
     requires { n ≤ 0xFFFFFFFFFF }
     ensures { result ≡ row_by n }

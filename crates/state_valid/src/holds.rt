@@ -16,6 +16,7 @@ use state_parts::{cycle, phase};
 use state_settings::kept::settings_ok;
 
 // A power-on's numbers in their ranges.
+#[tactic(auto, unfolding(crate::specs::Holds::profile_ok))]
 pub fn profile_ok(p: Profile) -> bool
     ensures { result ≡ profile_ok p }
 {
@@ -34,6 +35,7 @@ pub fn profile_ok(p: Profile) -> bool
 }
 
 // An observation's numbers in their ranges.
+#[tactic(auto, unfolding(crate::specs::Holds::sample_ok))]
 pub fn sample_ok(x: Sample) -> bool
     ensures { result ≡ sample_ok x }
 {
@@ -47,6 +49,7 @@ pub fn sample_ok(x: Sample) -> bool
 }
 
 // The registers hold what they may.
+#[tactic(auto, unfolding(crate::specs::Holds::registers_ok))]
 pub fn registers_ok(p: Profile, g: Registers) -> bool
     ensures { result ≡ registers_ok p g }
 {
@@ -66,6 +69,7 @@ fn stage_ok(limit: u32, stage: bool, time: u32) -> bool
 }
 
 // The stages' times hold what they may.
+#[tactic(auto, unfolding(crate::specs::Holds::cycle_ok))]
 pub fn cycle_ok(y: Cycle, p: Profile, phase: Phase) -> bool
     ensures { result ≡ cycle_ok y p phase }
 {
@@ -79,6 +83,7 @@ pub fn cycle_ok(y: Cycle, p: Profile, phase: Phase) -> bool
 }
 
 // The watchdog's count is at most its period.
+#[tactic(auto, unfolding(crate::specs::Holds::watchdog_ok))]
 pub fn watchdog_ok(w: Watchdog, p: Profile) -> bool
     ensures { result ≡ watchdog_ok w p }
 {
@@ -87,6 +92,7 @@ pub fn watchdog_ok(w: Watchdog, p: Profile) -> bool
 }
 
 // The state holds what it may.
+#[tactic(auto, unfolding(crate::specs::Holds::state_ok))]
 pub fn state_ok(s: State) -> bool
     ensures { result ≡ state_ok s }
 {

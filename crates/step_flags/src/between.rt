@@ -1,13 +1,15 @@
 // What flags are edges of, as it stands in one state; and the edges between two states.
-ghost use Rattle.std.specs.Prelude.{◌≡◌};
+ghost use Rattle.std.specs.Prelude.{◌≡◌, not, eqb};
+ghost use Rattle.state_parts.specs.Numbers.{phase_number, band_number};
 ghost use Rattle.step_flags.specs.Edges.{seen_of, edges_of};
 
 use crate::expiry;
 use settle_bands::joined;
 use settle_levels::comparators;
 use settle_permission::{bits, limits};
+use state_parts::band::Band;
 use state_parts::flags::Edges;
-use state_parts::phase;
+use state_parts::phase::Phase;
 use state_parts::state::State;
 
 #[derive(Clone, Copy)]
@@ -17,8 +19,8 @@ pub struct Seen {
     pub vindpm: bool,
     pub thermal: bool,
     pub expired: bool,
-    pub phase: u32,
-    pub band: u32,
+    pub phase: Phase,
+    pub band: Band,
     pub inputover: bool,
     pub shutdown: bool,
     pub packover: bool,
@@ -26,13 +28,13 @@ pub struct Seen {
 }
 
 // What is seen of a state.
+#[tactic(auto, unfolding(crate::specs::Edges::seen_of))]
 pub fn seen_in(s: State) -> Seen
     ensures { result ≡ seen_of s }
 {
     let profile = s.profile;
     let sample = s.sample;
     let latches = s.latches;
-    let at = s.phase;
     let held = s.bands;
     let good = comparators::input_good(latches);
     let iindpm = bits::iindpm(sample);
@@ -41,15 +43,14 @@ pub fn seen_in(s: State) -> Seen
     let shutdown = bits::shutdown(sample);
     let expired = expiry::expired(profile, s.watchdog);
     let limit = limits::any_reached(profile, s.cycle);
-    let phase = phase::number(at);
-    let band = joined::pack_number(held);
+    let band = joined::pack_band(held);
     Seen {
         good,
         iindpm,
         vindpm,
         thermal,
         expired,
-        phase,
+        phase: s.phase,
         band,
         inputover: latches.inputover,
         shutdown,
@@ -58,7 +59,22 @@ pub fn seen_in(s: State) -> Seen
     }
 }
 
+// Whether a phase is another than before.
+fn phase_changed(was: Phase, is: Phase) -> bool
+    ensures { result ≡ not (eqb (phase_number was) (phase_number is)) }
+{
+    was != is
+}
+
+// Whether a band is another than before.
+fn band_changed(was: Band, is: Band) -> bool
+    ensures { result ≡ not (eqb (band_number was) (band_number is)) }
+{
+    was != is
+}
+
 // One flag for each of the twelve edges.
+#[tactic(auto, unfolding(crate::specs::Edges::edges_of))]
 pub fn between(was: Seen, is: Seen) -> Edges
     ensures { result ≡ edges_of was is }
 {
@@ -69,8 +85,8 @@ pub fn between(was: Seen, is: Seen) -> Edges
         vindpm: !was.vindpm & is.vindpm,
         thermal: !was.thermal & is.thermal,
         expired: !was.expired & is.expired,
-        phase: was.phase != is.phase,
-        band: was.band != is.band,
+        phase: phase_changed(was.phase, is.phase),
+        band: band_changed(was.band, is.band),
         inputover: !was.inputover & is.inputover,
         shutdown: !was.shutdown & is.shutdown,
         packover: !was.packover & is.packover,

@@ -5,6 +5,7 @@ ghost use Rattle.step_flags.specs.Expiry.{expired_of, expires_of};
 use state_parts::profile::Profile;
 use state_parts::watchdog::Watchdog;
 
+#[tactic(auto, unfolding(crate::specs::Expiry::expired_of))]
 pub fn expired(profile: Profile, watchdog: Watchdog) -> bool
     ensures { result ≡ expired_of profile watchdog }
 {
@@ -14,6 +15,7 @@ pub fn expired(profile: Profile, watchdog: Watchdog) -> bool
 }
 
 // Whether it reaches it between two counts.
+#[tactic(auto, unfolding(crate::specs::Expiry::expires_of))]
 pub fn expires(profile: Profile, was: Watchdog, is: Watchdog) -> bool
     ensures { result ≡ expires_of profile was is }
 {
