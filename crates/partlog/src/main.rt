@@ -2,45 +2,41 @@
 // What matters is in the crates below: main reads, compares and prints.
 #![tactic(auto)]
 
-mod reading;
+ghost use Rattle.std.specs.Prelude.{◌≤◌, length, IfSome, IfOk};
 
 use log_pairs::answer::Compared;
 use std::io;
+use std::io::{Print, Write};
 use std::rt::{Env, Files};
 
-// How many bytes a file has, 65,537 for more than a log may have; or that it can't be read.
-#[derive(Clone, Copy)]
-enum Loaded {
-    Bytes(usize),
-    Unreadable,
+// Reads a file into a buffer: how many bytes it has, as far as there is room.
+fn read_file(rt: &impl Files, name: &[u8], log: &mut [u8]) -> io::Result<usize>
+    ensures { IfOk result (λ n. n ≤ length log.new) }
+{
+    let mut file = reading::open(rt, name)?;
+    let (n, read) = reading::read_full(&mut file, log);
+    read?;
+    Ok(n)
 }
 
-// Tells which file can't be read, and why.
-fn unreadable<P: io::Print>(to: &P, name: &[u8], error: &io::Error) -> Loaded {
-    let _ = to.write_all(b"partlog: cannot read ");
-    reading::fail(to, name, error);
-    Loaded::Unreadable
-}
-
-// Reads the file that an argument names.
-fn load<R: Env + Files, P: io::Print>(rt: &R, to: &P, i: usize, log: &mut [u8]) -> Loaded {
+// Reads the file that an argument names, 65,537 bytes of one that has more than a log may have; or tells that it can't be read, and why.
+fn load(rt: &(impl Env + Files), err: &mut impl Write, i: usize, log: &mut [u8]) -> Option<usize>
+    ensures { IfSome result (λ n. n ≤ length log.new) }
+{
     let mut name = [0u8; 4096];
     let length = rt.arg(i, &mut name).unwrap_or(0);
-    let opened = reading::open(rt, &name[..length]);
-    match opened {
-        Ok(mut file) => {
-            let (n, read) = reading::read_full(&mut file, log);
-            match read {
-                Ok(()) => Loaded::Bytes(n),
-                Err(error) => unreadable(to, &name[..length], &error),
-            }
+    match read_file(rt, &name[..length], log) {
+        Ok(n) => Some(n),
+        Err(error) => {
+            let _ = write!(err, "partlog: cannot read ");
+            let _ = reading::fail(err, &name[..length], &error);
+            None
         }
-        Err(error) => unreadable(to, &name[..length], &error),
     }
 }
 
 // Prints what the comparison came to.
-fn print_answer<P: io::Print>(to: &P, compared: Compared) {
+fn print_answer(to: &impl Print, compared: Compared) {
     let mut out = [0u8; 64];
     let put = log_pairs::text::answer(&mut out, compared);
     let Ok(n) = put else {
@@ -52,24 +48,18 @@ fn print_answer<P: io::Print>(to: &P, compared: Compared) {
 }
 
 fn main(rt: HostRuntime) {
-    let err = rt.stderr();
-    if reading::arg_count(&rt) != 3 {
-        let _ = io::Print::write_all(&err, b"usage: partlog FIRST SECOND\n");
+    let mut err = rt.stderr();
+    if reading::arg_count(&rt, 4) != 3 {
+        let _ = writeln!(err, "usage: partlog FIRST SECOND");
         return;
     }
     let mut first = [0u8; 65537];
     let mut second = [0u8; 65537];
-    let one = load(&rt, &err, 1, &mut first);
-    let Loaded::Bytes(n) = one else {
+    let Some(n) = load(&rt, &mut err, 1, &mut first) else {
         return;
     };
-    let other = load(&rt, &err, 2, &mut second);
-    let Loaded::Bytes(m) = other else {
+    let Some(m) = load(&rt, &mut err, 2, &mut second) else {
         return;
     };
-    if n <= 65537 {
-        if m <= 65537 {
-            print_answer(&rt, log_pairs::compare_inputs(&first[..n], &second[..m]));
-        }
-    }
+    print_answer(&rt, log_pairs::compare_inputs(&first[..n], &second[..m]));
 }

@@ -4,8 +4,6 @@
 ghost use Rattle.std.specs.Prelude.{◌≡◌, true, length};
 ghost use Rattle.step_text.specs.Prints.{next_text, print_told, printed};
 
-mod reading;
-
 use std::io;
 use step_event::walking;
 use step_event::walking::Walk;
@@ -29,8 +27,7 @@ fn run(to: &impl io::Print, log: &[u8]) -> bool
     ensures { result ≡ true }
 {
     let mut walk = walking::start();
-    let mut pages: usize = 0;
-    while pages < 4097 {
+    for _pages in 0..4097 {
         let page = print_page(to, log, walk);
         let Print::Page(_, after, over) = page else {
             return false;
@@ -39,22 +36,21 @@ fn run(to: &impl io::Print, log: &[u8]) -> bool
             return true;
         }
         walk = after;
-        pages += 1;
     }
     false
 }
 
 // Says that a read of standard input failed, and why.
-fn read_failed(to: &impl io::Print, error: &io::Error) {
-    let _ = to.write_all(b"runlog: cannot read ");
-    reading::fail(to, b"standard input", error);
+fn read_failed(to: &mut impl io::Write, error: &io::Error) -> io::Result<()> {
+    write!(to, "runlog: cannot read ")?;
+    reading::fail(to, b"standard input", error)
 }
 
 fn main(rt: HostRuntime) {
     let mut input = [0u8; 65537];
     let (n, read) = reading::read_full(&mut rt.stdin(), &mut input);
     if let Err(error) = read {
-        read_failed(&rt.stderr(), &error);
+        let _ = read_failed(&mut rt.stderr(), &error);
         return;
     }
     run(&rt, &input[..n]);

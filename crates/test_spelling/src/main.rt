@@ -1,122 +1,75 @@
 // Runs the log's spelling over stored bytes: each file at every place, cut off at every length, and its first event written into rooms of every size.
 #![tactic(auto)]
 
-mod reading;
+ghost use Rattle.std.specs.Prelude.{◌≤◌, length};
 
 use log_event::{Event, kinds};
 use log_record::answer::Read;
-use std::io::Print;
+use std::io::{Print, Write};
 use std::rt::{Env, Files};
-
-fn say(to: &impl Print, n: usize) {
-    let _ = to.print(n);
-}
-
-fn text(to: &impl Print, s: &[u8]) {
-    let _ = to.write_all(s);
-}
 
 // What was read: `record KIND to NEXT`, `refused NUMBER at PLACE`, or `end`.
 fn tell(to: &impl Print, got: Read) {
-    match got {
+    let _ = match got {
         Read::Record(e, next) => {
-            text(to, b"record ");
-            let _ = to.print(kinds::byte(log_event::kind(e)));
-            text(to, b" to ");
-            say(to, next);
+            let kind = kinds::byte(log_event::kind(e));
+            println!(to; "record {kind} to {next}")
         }
         Read::Refused(r, place) => {
-            text(to, b"refused ");
-            let _ = to.print(u32::from(r));
-            text(to, b" at ");
-            say(to, place);
+            let number = u32::from(r);
+            println!(to; "refused {number} at {place}")
         }
-        Read::End => {
-            text(to, b"end");
-        }
-    }
-    text(to, b"\n");
+        Read::End => println!(to; "end"),
+    };
 }
 
 fn place(to: &impl Print, log: &[u8], at: usize) {
-    text(to, b"place ");
-    say(to, at);
-    text(to, b": ");
+    let _ = print!(to; "place {at}: ");
     tell(to, log_record::read(log, at));
 }
 
 // At every place, at the end, and past it.
 fn places(to: &impl Print, log: &[u8]) {
-    let mut at: usize = 0;
-    while at < log.len() {
+    for at in 0..=log.len() {
         place(to, log, at);
-        at += 1;
     }
-    place(to, log, at);
     place(to, log, 300);
-}
-
-fn cut(to: &impl Print, log: &[u8], length: usize) {
-    if log.len() < length {
-        return;
-    }
-    text(to, b"cut ");
-    say(to, length);
-    text(to, b": ");
-    tell(to, log_record::read(&log[..length], 0));
 }
 
 // Cut off at every length.
 fn cuts(to: &impl Print, log: &[u8]) {
-    let mut length: usize = 0;
-    while length < log.len() {
-        cut(to, log, length);
-        length += 1;
+    for length in 0..log.len() {
+        let _ = print!(to; "cut {length}: ");
+        tell(to, log_record::read(&log[..length], 0));
     }
 }
 
 // How many bytes of a buffer that was full of 0xEE are others now.
 fn changed(buffer: [u8; 64]) -> usize {
-    let mut n: usize = 0;
-    let mut i: usize = 0;
-    while i < 64 {
-        if buffer[i] != 0xEE {
-            n += 1;
-        }
-        i += 1;
-    }
-    n
+    buffer.iter().filter(|byte| **byte != 0xEE).count()
 }
 
 // Written into a lent part: what the writer answers, and what reads back.
 fn written(to: &impl Print, part: &mut [u8], e: Event) {
-    match log_record::write(part, e) {
-        Ok(n) => {
-            text(to, b"wrote ");
-            say(to, n);
-        }
+    let _ = match log_record::write(part, e) {
+        Ok(n) => print!(to; "wrote {n}, "),
         Err(r) => {
-            text(to, b"refused ");
-            let _ = to.print(u32::from(r));
+            let number = u32::from(r);
+            print!(to; "refused {number}, ")
         }
-    }
-    text(to, b", ");
+    };
     tell(to, log_record::read(part, 0));
 }
 
 // Written into so much room of a larger buffer, and how many bytes of that changed.
-fn room(to: &impl Print, e: Event, size: usize) {
-    if 64 < size {
-        return;
-    }
+fn room(to: &impl Print, e: Event, size: usize)
+    requires { size ≤ 64 }
+{
     let mut buffer = [0xEEu8; 64];
-    text(to, b"room ");
-    say(to, size);
-    text(to, b": ");
+    let _ = print!(to; "room {size}: ");
     written(to, &mut buffer[..size], e);
-    text(to, b"changed ");
-    say(to, changed(buffer));
-    text(to, b"\n");
+    let changed = changed(buffer);
+    let _ = println!(to; "changed {changed}");
 }
 
 // Its first event, written into rooms from none to one byte more than it has.
@@ -125,20 +78,17 @@ fn rooms(to: &impl Print, log: &[u8]) {
     let Read::Record(e, _) = got else {
         return;
     };
-    let most = log_record::width(e) + 2;
-    let mut size: usize = 0;
-    while size < most {
+    for size in 0..log_record::width(e) + 2 {
         room(to, e, size);
-        size += 1;
     }
 }
 
-fn run_file(rt: &(impl Env + Files), to: &impl Print, err: &impl Print, i: usize) {
+fn run_file(rt: &(impl Env + Files), to: &impl Print, err: &mut impl Write, i: usize) {
     let mut path = [0u8; 4096];
     let length = rt.arg(i, &mut path).unwrap_or(0);
-    text(to, b"== ");
-    text(to, &path[..length]);
-    text(to, b"\n");
+    let _ = to.write_all(b"== ");
+    let _ = to.write_all(&path[..length]);
+    let _ = to.write_all(b"\n");
     match reading::open(rt, &path[..length]) {
         Ok(mut file) => {
             let mut input = [0u8; 256];
@@ -147,15 +97,14 @@ fn run_file(rt: &(impl Env + Files), to: &impl Print, err: &impl Print, i: usize
             cuts(to, &input[..n]);
             rooms(to, &input[..n]);
         }
-        Err(error) => reading::fail(err, &path[..length], &error),
+        Err(error) => {
+            let _ = reading::fail(err, &path[..length], &error);
+        }
     }
 }
 
 fn main(rt: HostRuntime) {
-    let count = reading::arg_count(&rt);
-    let mut i = 1;
-    while i < count {
-        run_file(&rt, &rt.stdout(), &rt.stderr(), i);
-        i += 1;
+    for i in 1..reading::arg_count(&rt, usize::MAX) {
+        run_file(&rt, &rt.stdout(), &mut rt.stderr(), i);
     }
 }

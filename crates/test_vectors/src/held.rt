@@ -1,75 +1,66 @@
 // What the model holds after a record: its number, the registers 0x00 to 0x26, the fourteen settings, the band, STAT and the flags that the record handed back.
-use crate::say;
 use report_state::answer::Stat;
 use report_state::stat;
 use settle_bands::joined;
 use state_parts::band::Band;
 use state_parts::state::{Model, State};
 use state_settings::numbered;
+use std::io;
 use std::io::Print;
 use step_event::walking::Met;
 
-fn registers(to: &impl Print, s: State) {
-    let mut address: u32 = 0;
-    while address < 0x27 {
+fn registers(to: &impl Print, s: State) -> io::Result<()> {
+    for address in 0..0x27 {
         let byte = report_registers::read(s, address);
-        say::number(to, byte as u32);
-        address += 1;
+        print!(to; "{byte} ")?;
     }
+    Ok(())
 }
 
-fn settings(to: &impl Print, s: State) {
-    let held = s.settings;
-    let mut number: u32 = 1;
-    while number < 15 {
-        say::number(to, numbered::held(held, number));
-        number += 1;
+fn settings(to: &impl Print, s: State) -> io::Result<()> {
+    for number in 1..15 {
+        let held = numbered::held(s.settings, number);
+        print!(to; "{held} ")?;
     }
+    Ok(())
 }
 
-fn band(to: &impl Print, b: Band) {
+fn band(b: Band) -> &'static str {
     match b {
-        Band::Normal => say::text(to, b"normal "),
-        Band::Cold => say::text(to, b"cold "),
-        Band::Cool => say::text(to, b"cool "),
-        Band::Warm => say::text(to, b"warm "),
-        Band::Hot => say::text(to, b"hot "),
-        Band::Mixed => say::text(to, b"mixed "),
+        Band::Normal => "normal",
+        Band::Cold => "cold",
+        Band::Cool => "cool",
+        Band::Warm => "warm",
+        Band::Hot => "hot",
+        Band::Mixed => "mixed",
     }
 }
 
-fn pin(to: &impl Print, s: Stat) {
+fn pin(s: Stat) -> &'static str {
     match s {
-        Stat::Low => say::text(to, b"low "),
-        Stat::Blinking => say::text(to, b"blinking "),
-        Stat::High => say::text(to, b"high "),
+        Stat::Low => "low",
+        Stat::Blinking => "blinking",
+        Stat::High => "high",
     }
 }
 
-fn state(to: &impl Print, s: State) {
-    say::text(to, b": ");
-    registers(to, s);
-    say::text(to, b": ");
-    settings(to, s);
-    say::text(to, b": ");
-    let held = s.bands;
-    let b = joined::pack_band(held);
-    band(to, b);
-    pin(to, stat::stat(s));
+fn state(to: &impl Print, s: State) -> io::Result<()> {
+    print!(to; ": ")?;
+    registers(to, s)?;
+    print!(to; ": ")?;
+    settings(to, s)?;
+    let band = band(joined::pack_band(s.bands));
+    let pin = pin(stat::stat(s));
+    print!(to; ": {band} {pin} ")
 }
 
-pub(crate) fn print(to: &impl Print, m: Met) {
-    let number = m.line.number;
-    let walk = m.walk;
-    let handed = walk.came.handed;
-    let model = walk.model;
-    match model {
-        Model::Off => {}
-        Model::On(s) => {
-            say::number(to, number);
-            state(to, s);
-            say::decimal(to, handed);
-            say::text(to, b"\n");
-        }
+pub(crate) fn print(to: &impl Print, m: Met) -> io::Result<()> {
+    if let Model::On(s) = m.walk.model {
+        let number = m.line.number;
+        let handed = m.walk.came.handed;
+        print!(to; "{number} ")?;
+        state(to, s)?;
+        println!(to; "{handed}")?;
     }
+    Ok(())
 }
