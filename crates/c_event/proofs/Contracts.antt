@@ -2,19 +2,19 @@
 use Prim.Native.Nat.{ℕ}
 use mathlib.Core.Path.{◌≡◌}
 use native.Mathlib.Omega.{arith}
+use Rattle.std.specs.Prelude.{Ok, Err}
 use Rattle.base.specs.Outcomes.{Settled}
 use Rattle.base.specs.Refusals.{refusal_number}
 use Rattle.base.proofs.Answers.{refusal-one}
 use Rattle.base.proofs.Outcomes.{contract-settles}
 use Rattle.c_event.specs.PublicPromises.{OneOutcome}
 use Rattle.c_event.specs.Given.{given_told}
-use Rattle.c_event.specs.declared.Given.TheVariants.{Event, Refused}
 
 given-one : Settled given_told
-given-one (Event e) (Event f) h = cc
-given-one (Event e) (Refused r) h = absurd (let z : ◌≡◌ {A = ℕ} 0 1 = cc in omega arith)
-given-one (Refused r) (Event e) h = absurd (let z : ◌≡◌ {A = ℕ} 0 1 = cc in omega arith)
-given-one (Refused a) (Refused b) h =
+given-one (Ok e) (Ok f) h = cc
+given-one (Ok e) (Err r) h = absurd (let z : ◌≡◌ {A = ℕ} 0 1 = cc in omega arith)
+given-one (Err r) (Ok e) h = absurd (let z : ◌≡◌ {A = ℕ} 0 1 = cc in omega arith)
+given-one (Err a) (Err b) h =
     let n : refusal_number a ≡ refusal_number b = cc in
     let same : a ≡ b = refusal-one a b n in
     cc

@@ -1,20 +1,19 @@
 -- The header: "One event outside a log: its kind, and the kind's numbers as words, just as many as it has."
-use Rattle.std.specs.Prelude.{ℕ, ◌*◌, List, length, eqb}
+use Rattle.std.specs.Prelude.{ℕ, ◌*◌, List, length, eqb, Result, Ok, Err}
 use Rattle.std.proofs.Math.Option.{Option, none, some}
 use Rattle.base.specs.Pick.{pick}
 use Rattle.base.specs.Refusals.{refusal_number}
+use Rattle.base.specs.declared.refusal.Refusal.{Refusal}
 use Rattle.base.specs.Told.{Told, accepted, refused}
 use Rattle.log_event.specs.Items.{spans}
 use Rattle.log_event.specs.Kinds.{KindRow, kinds, row_for}
 use Rattle.log_event.specs.Events.{event_of}
 use Rattle.log_event.specs.declared.Event.{Event}
 use Rattle.c_words.specs.Words.{words_in}
-use Rattle.c_event.specs.declared.Given.{Given}
-use Rattle.c_event.specs.declared.Given.TheVariants as given
 
-abbrev pub given_told : Given → Told Event
-given_told (given.Event e) = accepted e
-given_told (given.Refused r) = refused (refusal_number r)
+abbrev pub given_told : Result Event Refusal → Told Event
+given_told (Ok e) = accepted e
+given_told (Err r) = refused (refusal_number r)
 
 -- "An unknown kind is 4; words that aren't as many are 5."
 abbrev pub given_row : Option KindRow → List ℕ → Told Event

@@ -1,19 +1,11 @@
--- `event_of` meets its contract.
-use mathlib.Core.Path.{sym, ap, ◌∙◌}
-use Rattle.log_event.specs.Kinds.{known_told}
-use Rattle.c_event.proofs.Givens.{no_byte, no_kind, other-count, given_is}
+-- `event_of` meets its contract: of the words that are read, a kind's numbers are the first.
+use Rattle.std.proofs.Common.{◌≡◌, sym, ap, ◌∙◌, rules}
+use Rattle.log_event.specs.Kinds.{kinds, row_for, known_told}
+use Rattle.c_event.proofs.Givens.{given_is}
 use Rattle.c_event.proofs.event_of.Goals as goal
-
-pub returns-then-kind-gt255 : goal.returns-then-kind-gt255
-returns-then-kind-gt255 c = no_byte _ _ c.if-kind-gt255.true
-
-pub returns-in_default : goal.returns-in_default
-returns-in_default c = no_kind _ _ (sym c.kind_for-known.ensures ∙ ap known_told c.in_default.is)
-
-pub returns-then-bytes-count : goal.returns-then-bytes-count
-returns-then-bytes-count c =
-    other-count _ _ c.in-Kind.of _ (sym c.kind_for-known.ensures ∙ ap known_told c.in-Kind.is) c.count-count.ensures.0 c.if-bytes-count.true
 
 pub returns : goal.returns
 returns c =
-    given_is _ _ c.in-Kind.of _ c.read.new.all c.made.result (sym c.kind_for-known.ensures ∙ ap known_told c.in-Kind.is) c.count-count.ensures.0 c.count-count.ensures.1 c.if-bytes-count.false c.read.ensures c.made.ensures
+    let same : c.in_ok-byte.byte ≡ c.args.kind = search rules in
+    let row = ap known_told (sym c.in_ok-of.ensures.ok_part) ∙ c.kind_for.ensures ∙ ap (row_for kinds) same in
+    given_is c.args.kind c.args.bytes.now c.in_ok-of.of c.count.result c.read.new.all c.made.result row c.count.ensures.0 c.count.ensures.1 c.if-bytes-count.false c.read.ensures c.made.ensures
