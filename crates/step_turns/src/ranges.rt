@@ -5,6 +5,7 @@ ghost use Rattle.step_turns.specs.Ranges.{profile_in_range, edition_in_range, sa
 use log_event::spelled::{SpelledProfile, SpelledResistors, SpelledSample};
 
 // A power-on's numbers in their ranges.
+#[tactic(auto, unfolding(crate::specs::Ranges::profile_in_range))]
 pub fn profile_in_range(p: SpelledProfile) -> bool
     ensures { result ≡ profile_in_range p }
 {
@@ -21,6 +22,7 @@ pub fn profile_in_range(p: SpelledProfile) -> bool
 }
 
 // The same, with the edition.
+#[tactic(auto, unfolding(crate::specs::Ranges::edition_in_range))]
 pub fn edition_in_range(p: SpelledProfile, edition: u32) -> bool
     ensures { result ≡ edition_in_range p edition }
 {
@@ -29,6 +31,7 @@ pub fn edition_in_range(p: SpelledProfile, edition: u32) -> bool
 }
 
 // An observation's numbers in their ranges.
+#[tactic(auto, unfolding(crate::specs::Ranges::sample_in_range))]
 pub fn sample_in_range(x: SpelledSample) -> bool
     ensures { result ≡ sample_in_range x }
 {
@@ -41,6 +44,7 @@ pub fn sample_in_range(x: SpelledSample) -> bool
 }
 
 // The same, with the second thermistor's value.
+#[tactic(auto, unfolding(crate::specs::Ranges::two_in_range))]
 pub fn two_in_range(x: SpelledSample, second: u32) -> bool
     ensures { result ≡ two_in_range x second }
 {
@@ -49,6 +53,7 @@ pub fn two_in_range(x: SpelledSample, second: u32) -> bool
 }
 
 // The resistors of a power-on in their range.
+#[tactic(auto, unfolding(crate::specs::Ranges::resistors_in_range))]
 pub fn resistors_in_range(r: SpelledResistors) -> bool
     ensures { result ≡ resistors_in_range r }
 {

@@ -78,6 +78,7 @@ fn observes_with(x: SpelledSample, second: u32) -> Turn
 }
 
 // What an event does.
+#[tactic(auto, unfolding(crate::specs::Turns::turn_of))]
 pub fn turn_of(e: Event) -> Turn
     ensures { result ≡ turn_of e }
 {

@@ -1,8 +1,0 @@
--- `resistors_in_range`: test by test.
-use borrow.Author.Rules.{rules}
-use Rattle.step_turns.specs.Ranges.{resistors_in_range}
-use Rattle.step_turns.proofs.ranges.resistors_in_range.Goals as goal
-
-pub returns : goal.returns
-unfolding resistors_in_range
-returns c = search rules
