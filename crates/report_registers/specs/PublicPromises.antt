@@ -1,15 +1,15 @@
 -- What the calls promise, and that each promise allows one outcome.
-use Rattle.std.specs.Prelude.{ℕ, ◌≡◌}
+use Rattle.std.specs.Prelude.{ℕ, ◌≡◌, Result}
 use Rattle.base.specs.Outcomes.{One}
+use Rattle.base.specs.declared.refusal.Refusal.{Refusal}
 use Rattle.state_parts.specs.declared.state.State.{State}
 use Rattle.state_parts.specs.declared.state.Model.{Model}
 use Rattle.report_registers.specs.Reads.{register_told, read_of, read_register_of}
-use Rattle.report_registers.specs.declared.ReadAnswer.{ReadAnswer}
 
 abbrev pub ReadPromise : State → ℕ → ℕ → Type 0
 ReadPromise s address r = r ≡ read_of s address
 
-abbrev pub ReadRegisterPromise : Model → ℕ → ReadAnswer → Type 0
+abbrev pub ReadRegisterPromise : Model → ℕ → Result ℕ Refusal → Type 0
 ReadRegisterPromise m address r = register_told r ≡ read_register_of m address
 
 -- "equal inputs allow one outcome"

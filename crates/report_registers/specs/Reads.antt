@@ -1,7 +1,9 @@
 -- 02, R-3: "Reads outside the map return 0xFF, not 10." "Status fields are read from the model's phase and flags."
-use Rattle.std.specs.Prelude.{ℕ, ◌+◌, ◌-◌, ◌*◌, ◌/◌, ◌%◌, ◌^◌, Bool, not, ◌||◌, List, [], ◌∷◌, get_or, leb, eqb}
+use Rattle.std.specs.Prelude.{ℕ, ◌+◌, ◌-◌, ◌*◌, ◌/◌, ◌%◌, ◌^◌, Bool, not, ◌||◌, List, [], ◌∷◌, get_or, leb, eqb, Result, Ok, Err}
 use Rattle.base.specs.Pick.{pick, bit_of}
 use Rattle.base.specs.Refusals.{refusal_number}
+use Rattle.base.specs.declared.refusal.Refusal.{Refusal}
+use Rattle.state_parts.specs.Numbers.{phase_number, band_number}
 use Rattle.base.specs.Told.{Told, accepted, refused}
 use Rattle.state_table.specs.Rows.{Field, fields_of, map_size, over, shifted}
 use Rattle.state_table.specs.Packed.{upper_half}
@@ -16,13 +18,11 @@ use Rattle.state_parts.specs.declared.state.Model.{Model}
 use Rattle.state_parts.specs.declared.state.Model.TheVariants.{Off, On}
 use Rattle.step_flags.specs.Edges.{seen_of}
 use Rattle.step_flags.specs.declared.between.Seen.{Seen}
-use Rattle.report_registers.specs.declared.ReadAnswer.{ReadAnswer}
-use Rattle.report_registers.specs.declared.ReadAnswer.TheVariants.{Byte, Refused}
 
 -- a read's answer in the paper's numbers
-abbrev pub register_told : ReadAnswer → Told ℕ
-register_told (Byte byte) = accepted byte
-register_told (Refused refusal) = refused (refusal_number refusal)
+abbrev pub register_told : Result ℕ Refusal → Told ℕ
+register_told (Ok byte) = accepted byte
+register_told (Err refusal) = refused (refusal_number refusal)
 
 -- CHARGE_STAT: the sheet numbers phases 1 to 4 as 01 does, and a charge that is done is 7
 abbrev pub charge_stat : ℕ → ℕ
@@ -32,13 +32,13 @@ charge_stat phase = pick (leb phase 4) phase (pick (eqb phase 5) 7 0)
 -- They are what flags are edges of. In BAT_FAULT_STAT 2 is an over-voltage battery.
 unfoldable pub statuses : Seen → List ℕ
 statuses x =
-    charge_stat x.phase
+    charge_stat (phase_number x.phase)
     ∷ bit_of x.expired
     ∷ bit_of x.thermal
     ∷ bit_of x.vindpm
     ∷ bit_of x.iindpm
     ∷ bit_of x.good
-    ∷ x.band
+    ∷ band_number x.band
     ∷ bit_of x.shutdown
     ∷ bit_of x.limit
     ∷ bit_of x.packover * 2

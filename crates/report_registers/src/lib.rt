@@ -15,12 +15,6 @@ use step_flags::between;
 pub mod codes;
 pub mod flags;
 
-#[derive(Clone, Copy)]
-pub enum ReadAnswer {
-    Byte(u8),
-    Refused(Refusal),
-}
-
 // A code at its field's place.
 pub(crate) fn placed(code: u32, low: u32, width: u32) -> u32
     requires { (low ≤ 15) × (width ≤ 16) }
@@ -69,11 +63,11 @@ pub fn read(s: State, address: u32) -> u8
 }
 
 // A register of a model: 6 before a power-on. Nothing changes.
-pub fn read_register(m: Model, address: u32) -> ReadAnswer
+pub fn read_register(m: Model, address: u32) -> Result<u8, Refusal>
     ensures { ReadRegisterPromise m address result }
 {
     match m {
-        Model::Off => ReadAnswer::Refused(Refusal::NotPowered),
-        Model::On(s) => ReadAnswer::Byte(read(s, address)),
+        Model::Off => Err(Refusal::NotPowered),
+        Model::On(s) => Ok(read(s, address)),
     }
 }

@@ -10,6 +10,8 @@ use crate::clock;
 use base::refusal::Refusal;
 use base::stamp;
 use log_event::Event;
+use state_parts::band::Band;
+use state_parts::phase::Phase;
 use state_parts::sample::Sample;
 use state_parts::state::{Model, State};
 use state_registers::resetting;
@@ -119,8 +121,8 @@ fn nothing_seen() -> Seen
         vindpm: false,
         thermal: false,
         expired: false,
-        phase: 0,
-        band: 0,
+        phase: Phase::Idle,
+        band: Band::Normal,
         inputover: false,
         shutdown: false,
         packover: false,
