@@ -1,4 +1,5 @@
 -- The laws of the crate `step_pins`.
 mod Lowest
 mod Overlaps
+pub mod Places
 pub mod Pins

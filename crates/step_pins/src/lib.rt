@@ -1,43 +1,34 @@
 // The code that a resistor at one of the pins CELL, VCHG and ICHG stands for.
 #![tactic(auto)]
 
-ghost use Rattle.std.specs.Prelude.{◌≡◌};
-ghost use Rattle.base.specs.Pick.{pick};
-ghost use Rattle.step_pins.specs.Codes.{distance, matches, code_of};
+ghost use Rattle.std.specs.Prelude.{◌≡◌, position};
+ghost use Rattle.step_pins.specs.Codes.{resistors, matches, code_of};
 
-use base::choice;
-
-// How far two numbers are apart.
-fn apart(a: u32, b: u32) -> u32
-    ensures { result ≡ distance a b }
-{
-    if a <= b { b - a } else { a - b }
-}
+// The resistors of codes 1 to 7, in ohms.
+const RESISTORS: [u32; 7] = [4640, 6040, 8250, 10500, 13700, 16900, 27400];
 
 // Whether a resistor is within 2% of the table's.
 fn is_near(nominal: u32, ohms: u32) -> bool
     ensures { result ≡ matches nominal ohms }
 {
-    let far = apart(ohms, nominal);
+    let far = ohms.abs_diff(nominal);
     100 * (far as u64) <= 2 * (nominal as u64)
 }
 
-// A code if a resistor is within 2% of the table's, else what the higher codes come to.
-fn code_or(nominal: u32, code: u32, ohms: u32, higher: u32) -> u32
-    ensures { result ≡ pick (matches nominal ohms) code higher }
+// The place of the first resistor that is within 2%.
+fn place(ohms: u32) -> Option<usize>
+    ensures { result ≡ position (λ nominal. matches nominal ohms) resistors }
 {
-    choice::either(is_near(nominal, ohms), code, higher)
+    RESISTORS.iter().position(|nominal| is_near(*nominal, ohms))
 }
 
 // The lowest code whose resistor is within 2%; 0, a pin fault, if none is.
+#[tactic(auto, using(crate::proofs::Places::found, crate::proofs::Places::missed), unfolding(crate::specs::Codes::code_of))]
 pub fn code_of(ohms: u32) -> u32
     ensures { result ≡ code_of ohms }
 {
-    let from_7 = code_or(27400, 7, ohms, 0);
-    let from_6 = code_or(16900, 6, ohms, from_7);
-    let from_5 = code_or(13700, 5, ohms, from_6);
-    let from_4 = code_or(10500, 4, ohms, from_5);
-    let from_3 = code_or(8250, 3, ohms, from_4);
-    let from_2 = code_or(6040, 2, ohms, from_3);
-    code_or(4640, 1, ohms, from_2)
+    match place(ohms) {
+        Some(i) => i as u32 + 1,
+        None => 0,
+    }
 }
