@@ -1,5 +1,5 @@
 -- Pieces written one after the other, each into the rest of a lent part: what holds at each turn of such a loop.
-use Rattle.std.proofs.Common.{◌≡◌, ℕ, zero, suc, ◌+◌, ◌-◌, ◌<◌, ◌≤◌, List, [], ◌∷◌, ◌++◌, length, get_or, take, drop, sym, refl, ap, ◌∙◌, add-one, arith, length-append, length-drop, drop_of_length-le, length-take-le, drop-cons, get_or-take}
+use Rattle.std.proofs.Common.{◌≡◌, ℕ, zero, suc, ◌+◌, ◌-◌, ◌<◌, ◌≤◌, List, [], ◌∷◌, ◌++◌, length, get_or, take, drop, sym, refl, ap, ◌∙◌, add-one, arith, length-append, length-drop, drop_of_length-le, length-take-le, drop-cons}
 use lib.Seq.{sets, length-sets}
 use borrow.Rule.Slice.PartMut.{put_mid}
 use Rattle.base.specs.Writing.{Wrote, wrote, put, written}
@@ -80,41 +80,17 @@ module _ {ps : List (List ℕ)} {first : List ℕ} {start : ℕ} {out : List ℕ
   pub done : length ps ≤ i → Done
   done h = record { same = ap (sets out at) (sym (left-none ps i h)) ∙ turn.same; place = omega (arith, turn.place, none-long ps i h) }
 
--- ---- pieces made of the first of a list, each in the same way
+-- ---- pieces made of a list, each in the same way
 module _ {A : Type 0} (text : A → List ℕ) where
   abbrev pub each : List A → List (List ℕ)
   each [] = []
   each (x ∷ xs) = text x ∷ each xs
 
-  each_long : (xs : List A) → length (each xs) ≡ length xs
+  pub each_long : (xs : List A) → length (each xs) ≡ length xs
   each_long [] = refl
   each_long (x ∷ xs) = ap suc (each_long xs)
 
-  each_at : (xs : List A) (other : A) (i : ℕ) → i < length xs → piece_at (each xs) i ≡ text (get_or xs i other)
+  pub each_at : (xs : List A) (other : A) (i : ℕ) → i < length xs → piece_at (each xs) i ≡ text (get_or xs i other)
   each_at [] other i h = absurd (omega arith)
   each_at (x ∷ xs) other zero h = refl
   each_at (x ∷ xs) other (suc i) h = each_at xs other i (omega arith)
-
-  -- the first `count` of them
-  module _ (xs : List A) (count : ℕ) (within : count ≤ length xs) where
-    count_long : length (each (take count xs)) ≡ count
-    count_long = each_long (take count xs) ∙ length-take-le count xs within
-
-    count_at : (other : A) (i : ℕ) → i < count → piece_at (each (take count xs)) i ≡ text (get_or xs i other)
-    count_at other i h = each_at (take count xs) other i (rw (length-take-le count xs within) h) ∙ ap text (get_or-take count xs i other h)
-
-    -- how many bytes are left
-    pub sum_more : (other : A) (i : ℕ) → i < count
-        → length (left (each (take count xs)) i) ≡ length (text (get_or xs i other)) + length (left (each (take count xs)) (i + 1))
-    sum_more other i h = left-long (each (take count xs)) i (rw count_long h) ∙ ap (λ p. length p + length (left (each (take count xs)) (i + 1))) (count_at other i h)
-
-    pub sum-none : (i : ℕ) → count ≤ i → length (left (each (take count xs)) i) ≡ 0
-    sum-none i h = none-long (each (take count xs)) i (rw count_long h)
-
-    -- one more, and the end
-    module _ {first : List ℕ} {start : ℕ} {out : List ℕ} {at i : ℕ} (turn : Turn (each (take count xs)) first start out at i) where
-      pub one-more : (other : A) → i < count → More turn (text (get_or xs i other))
-      one-more other h = more turn (rw count_long h) (text (get_or xs i other)) (count_at other i h)
-
-      pub all_done : count ≤ i → Done turn
-      all_done h = done turn (rw count_long h)

@@ -25,7 +25,7 @@ fn report_numbers(s: State) -> Report
     let limit = told.limit;
     let phase = phase::number(at);
     let voltage = u32::from(pack);
-    let stat = stat::number(stat::stat(s));
+    let stat = u32::from(stat::stat(s));
     [phase, current, voltage, limit, flags, stat]
 }
 

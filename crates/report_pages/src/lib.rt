@@ -1,7 +1,7 @@
 // The text of a page of a walk: its records' lines, one after the other, written whole into a lent part or not at all.
 #![tactic(auto)]
 
-ghost use Rattle.std.specs.Prelude.{◌≡◌, ◌≤◌, min, length, take};
+ghost use Rattle.std.specs.Prelude.{◌≡◌, ◌≤◌, length, take};
 ghost use Rattle.report_pages.specs.Text.{numbers_of, lines_text, page_count, most_page};
 ghost use Rattle.report_pages.specs.PublicPromises.{PageWidthPromise, PagePromise};
 
@@ -17,6 +17,7 @@ pub const PAGE: usize = 16;
 pub type PageLines = [Line; PAGE];
 
 // The nine numbers of a line, in their order.
+#[tactic(auto, unfolding(crate::specs::Text::numbers_of))]
 fn numbers_of(line: Line) -> LineNumbers
     ensures { result ≡ numbers_of line }
 {
@@ -33,52 +34,44 @@ fn numbers_of(line: Line) -> LineNumbers
     ]
 }
 
-// How many bytes the first `count` lines have.
-fn width(lines: PageLines, count: usize) -> usize
-    requires { count ≤ page_count }
-    ensures { (result ≡ length (lines_text (take count lines))) × (result ≤ most_page) }
+// How many bytes lines have.
+fn width(lines: &[Line]) -> usize
+    requires { length lines.now ≤ page_count }
+    ensures { (result ≡ length (lines_text lines.now)) × (result ≤ most_page) }
 {
-    let mut sum: usize = 0;
-    let mut i: usize = 0;
-    while i < count {
-        let line = lines[i];
-        sum += text::line_width(numbers_of(line));
-        i += 1;
-    }
-    sum
+    lines
+        .iter()
+        .map(|line| text::line_width(numbers_of(*line)))
+        .sum()
 }
 
-fn lesser(a: usize, b: usize) -> usize
-    ensures { result ≡ min a b }
+// The first `most` lines of a page.
+fn first(lines: &PageLines, most: usize) -> &[Line]
+    ensures { (result.now ≡ take most lines.now) × (length result.now ≤ page_count) }
 {
-    if a < b { a } else { b }
+    &lines[..most.min(PAGE)]
 }
 
 // How many bytes the first `most` lines of a page have.
+#[tactic(auto, unfolding(crate::specs::Text::page_text))]
 pub fn page_width(lines: PageLines, most: usize) -> usize
     ensures { PageWidthPromise most lines result }
 {
-    width(lines, lesser(most, PAGE))
+    width(first(&lines, most))
 }
 
 // Writes the first `most` lines of a page.
 pub fn page(out: &mut [u8], lines: PageLines, most: usize) -> Result<usize, Refusal>
     ensures { PagePromise most lines out.old result out.new }
 {
-    let count = lesser(most, PAGE);
-    if out.len() < width(lines, count) {
+    let lines = first(&lines, most);
+    if out.len() < width(lines) {
         return Err(Refusal::NoRoom);
     }
     let mut at: usize = 0;
-    let mut i: usize = 0;
-    while i < count {
-        let line = lines[i];
-        let put = text::line(&mut out[at..], numbers_of(line));
-        let Ok(n) = put else {
-            return put;
-        };
-        at += n;
-        i += 1;
+    for line in lines {
+        let bytes = text::line(&mut out[at..], numbers_of(*line))?;
+        at += bytes;
     }
     Ok(at)
 }

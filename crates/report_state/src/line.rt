@@ -3,7 +3,6 @@ ghost use Rattle.std.specs.Prelude.{◌≡◌};
 ghost use Rattle.report_state.specs.Lines.{line_of};
 
 use crate::report;
-use state_parts::phase;
 use state_parts::state::Model;
 
 // The nine numbers of a record's line.
@@ -21,6 +20,7 @@ pub struct Line {
 }
 
 // What a record's line shows of the model after it.
+#[tactic(auto, unfolding(crate::specs::Lines::line_of))]
 pub fn line_of(number: u32, kind: u32, answer: u32, pulse: u32, m: Model) -> Line
     ensures { result ≡ line_of number kind answer pulse m }
 {
@@ -42,7 +42,7 @@ pub fn line_of(number: u32, kind: u32, answer: u32, pulse: u32, m: Model) -> Lin
             let limit = shown.limit;
             let at = shown.phase;
             let pack = shown.voltage;
-            let phase = phase::number(at);
+            let phase = u32::from(at);
             let voltage = u32::from(pack);
             Line {
                 number,

@@ -3,9 +3,9 @@ ghost use Rattle.std.specs.Prelude.{◌≡◌, min};
 ghost use Rattle.report_state.specs.Report.{charge_clamp_of, fast_current, trickle_current, current_in, input_limit_of};
 ghost use Rattle.report_state.specs.PublicPromises.{ReportPromise};
 
-use base::units::PackMv;
 use crate::answer::Report;
 use base::choice;
+use base::units::PackMv;
 use settle_bands::{effect, joined};
 use settle_levels::voltage;
 use state_fields::named;
@@ -17,13 +17,8 @@ use state_parts::settings::Settings;
 use state_parts::state::State;
 use state_parts::{phase, pins};
 
-fn lower(first: u32, second: u32) -> u32
-    ensures { result ≡ min first second }
-{
-    if first <= second { first } else { second }
-}
-
 // What the charge current is at most, in mA.
+#[tactic(auto, unfolding(crate::specs::Report::charge_clamp_of))]
 fn charge_clamp(profile: Profile, registers: Registers) -> u32
     ensures { result ≡ charge_clamp_of profile registers }
 {
@@ -33,13 +28,14 @@ fn charge_clamp(profile: Profile, registers: Registers) -> u32
 }
 
 // The current of phases 3 and 4: all that ICHG reaches.
+#[tactic(auto, unfolding(crate::specs::Report::fast_current))]
 fn fast_current(profile: Profile, settings: Settings, registers: Registers, band: Band) -> u32
     ensures { result ≡ fast_current profile settings registers band }
 {
     let ichg = settings.ichg;
     let clamp = charge_clamp(profile, registers);
     let share = effect::share(profile, registers, band);
-    let whole = lower(ichg, clamp);
+    let whole = ichg.min(clamp);
     ((whole as u64) * (share as u64) / 100) as u32
 }
 
@@ -54,17 +50,14 @@ fn current_in(phase: Phase, trickle: u32, precharge: u32, fast: u32) -> u32
     ensures { result ≡ current_in phase trickle precharge fast }
 {
     match phase {
-        Phase::Idle => 0,
         Phase::Trickle => trickle,
         Phase::Precharge => precharge,
-        Phase::Fast => fast,
-        Phase::Taper => fast,
-        Phase::Done => 0,
-        Phase::Suspended => 0,
-        Phase::Fault => 0,
+        Phase::Fast | Phase::Taper => fast,
+        Phase::Idle | Phase::Done | Phase::Suspended | Phase::Fault => 0,
     }
 }
 
+#[tactic(auto, unfolding(crate::specs::Report::input_limit_of))]
 fn input_limit(profile: Profile, settings: Settings) -> u32
     ensures { result ≡ input_limit_of profile settings }
 {
@@ -76,10 +69,11 @@ fn input_limit(profile: Profile, settings: Settings) -> u32
     if ohms < 1 {
         return iindpm;
     }
-    lower(iindpm, 3333000 / ohms)
+    iindpm.min(3333000 / ohms)
 }
 
 // What the model reports.
+#[tactic(auto, unfolding(crate::specs::Report::report_of))]
 pub fn report(state: State) -> Report
     ensures { ReportPromise state result }
 {
@@ -99,9 +93,9 @@ pub fn report(state: State) -> Report
     let voltage = choice::either(charges, charge, none);
     let limit = input_limit(profile, settings);
     Report {
-        phase: phase,
-        current: current,
-        voltage: voltage,
-        limit: limit,
+        phase,
+        current,
+        voltage,
+        limit,
     }
 }
