@@ -21,20 +21,12 @@ fn flag_by(access: Access, flags: u32) -> u32
     ensures { result ≡ flag_by access flags }
 {
     match access {
-        Access::Reserved => 0,
-        Access::Fixed(_) => 0,
-        Access::Status(_) => 0,
         Access::Flag(first, count) => any_of(flags, first, count),
-        Access::Stored => 0,
-        Access::Setting(_, _) => 0,
-        Access::Mask(_, _) => 0,
-        Access::Counted => 0,
-        Access::Pin(_) => 0,
-        Access::Acts(_) => 0,
+        _ => 0,
     }
 }
 
-// A flag register's byte while these flags are held.
+// A flag register's byte while these flags are held. Not one function with `value` over a closure: that would have to require what each call of it gives, for a loop of five lines.
 pub fn flag_byte(p: Profile, address: u32, flags: u32) -> u8
     ensures { result ≡ flag_byte p address flags }
 {
@@ -43,14 +35,12 @@ pub fn flag_byte(p: Profile, address: u32, flags: u32) -> u8
     }
     let last = rows_below(address + 1);
     let mut sum: u64 = 0;
-    let mut i = rows_below(address);
-    while i < last {
+    for i in rows_below(address)..last {
         let row = row_at(i);
         let access = row.access;
         let here = flag_by(access, flags);
         let part = placed(here, row.low, row.width);
         sum += part as u64;
-        i += 1;
     }
     (sum % 256) as u8
 }

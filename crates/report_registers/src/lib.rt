@@ -33,13 +33,11 @@ fn value(s: State, address: u32) -> u64
     let x = between::seen_in(s);
     let last = rows_below(address + 1);
     let mut sum: u64 = 0;
-    let mut i = rows_below(address);
-    while i < last {
+    for i in rows_below(address)..last {
         let row = row_at(i);
         let here = code(s, x, i);
         let part = placed(here, row.low, row.width);
         sum += part as u64;
-        i += 1;
     }
     sum
 }
@@ -63,6 +61,7 @@ pub fn read(s: State, address: u32) -> u8
 }
 
 // A register of a model: 6 before a power-on. Nothing changes.
+#[tactic(auto, unfolding(crate::specs::Reads::read_register_of))]
 pub fn read_register(m: Model, address: u32) -> Result<u8, Refusal>
     ensures { ReadRegisterPromise m address result }
 {

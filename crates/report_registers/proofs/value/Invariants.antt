@@ -1,5 +1,5 @@
 -- `value`: a loop over the register's rows.
-use Prim.Native.Nat.{◌+◌, ◌-◌, ◌*◌, ◌≤◌}
+use Prim.Native.Nat.{◌+◌, ◌*◌, ◌≤◌}
 use mathlib.Core.Path.{◌≡◌}
 use lib.ListN.{drop}
 use Rattle.state_table.specs.Rows.{fields, over}
@@ -12,6 +12,3 @@ abbrev pub invariant-loop-i : goal.invariant-loop-i
 invariant-loop-i l =
     (l.last ≡ below (l.address + 1) fields) × (below l.address fields ≤ l.i) × (l.sum ≤ l.i * 0x7FFF8000)
     × (over (on l.address (code_of l.s)) (step l.address (code_of l.s)) (drop l.i fields) l.sum ≡ over (on l.address (code_of l.s)) (step l.address (code_of l.s)) fields 0)
-
-abbrev pub decreases-loop-i : goal.decreases-loop-i
-decreases-loop-i l = l.last - l.i

@@ -1,5 +1,5 @@
 -- `flag_byte`: a loop over the register's rows.
-use Prim.Native.Nat.{ℕ, ◌+◌, ◌-◌, ◌*◌, ◌≤◌}
+use Prim.Native.Nat.{ℕ, ◌+◌, ◌*◌, ◌≤◌}
 use mathlib.Core.Path.{◌≡◌}
 use lib.ListN.{drop}
 use Rattle.state_table.specs.Rows.{Field, fields, over}
@@ -16,6 +16,3 @@ abbrev pub invariant-loop-i : goal.invariant-loop-i
 invariant-loop-i l =
     (l.address ≤ 38) × (l.last ≡ below (l.address + 1) fields) × (below l.address fields ≤ l.i) × (l.sum ≤ l.i * 0x7FFF8000)
     × (over (on l.address (code l.flags)) (step l.address (code l.flags)) (drop l.i fields) l.sum ≡ over (on l.address (code l.flags)) (step l.address (code l.flags)) fields 0)
-
-abbrev pub decreases-loop-i : goal.decreases-loop-i
-decreases-loop-i l = l.last - l.i
