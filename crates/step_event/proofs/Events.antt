@@ -1,21 +1,12 @@
 -- What the step's functions ask, over plain values.
 use Rattle.std.proofs.Common.{◌≡◌, Bool, true, false, sym, ap, ◌∙◌}
 use Rattle.base.specs.Told.{refused}
-use Rattle.base.specs.Refusals.{refusal_number}
-use Rattle.base.specs.declared.refusal.Refusal.{Refusal}
 use Rattle.state_parts.specs.declared.state.State.{State}
 use Rattle.state_parts.specs.declared.state.Model.{Model}
 use Rattle.state_parts.specs.declared.state.Model.TheVariants.{On}
 use Rattle.state_valid.specs.Holds.{state_ok}
 use Rattle.step_turns.specs.declared.turn.Turn.{Turn}
-use Rattle.step_flags.specs.declared.between.Seen.{Seen}
-use Rattle.step_kinds.specs.Answers.{refused_with}
-use Rattle.step_kinds.specs.Changes.{change_told}
-use Rattle.step_kinds.specs.Finish.{finish_of}
-use Rattle.step_kinds.specs.declared.change.Change.{Change}
-use Rattle.step_kinds.specs.declared.change.Change.TheVariants.{Made, Refused}
-use Rattle.step_kinds.specs.declared.change.Way.{Way}
-use Rattle.step_event.specs.Steps.{moved_of, change_of, model_ok, seen_on, turned_by}
+use Rattle.step_event.specs.Steps.{moved_of, change_of, model_ok}
 
 -- a model that is on, and is known to hold what it may, or not
 pub known_on : (m : Model) (s : State) (t : Turn) {ok : Bool} → ok ≡ model_ok m → m ≡ On s → ok ≡ true → moved_of s t ≡ change_of m t

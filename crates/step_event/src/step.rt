@@ -131,6 +131,7 @@ fn nothing_seen() -> Seen
 }
 
 // What flags are edges of.
+#[tactic(auto, unfolding(crate::specs::Steps::seen_on))]
 fn seen_on(m: Model) -> Seen
     ensures { result ≡ seen_on m }
 {

@@ -40,7 +40,7 @@ abbrev state_after : State → Model → State
 state_after other Off = other
 state_after other (On s) = s
 
-finished-settled : Settled finished_told
+pub finished-settled : Settled finished_told
 finished-settled a b e = λ i. record { state = state_after a.state (e i).model; pulse = (e i).pulse; handed = (e i).handed }
 
 pub one-outcome : OneOutcome

@@ -4,4 +4,4 @@ use Rattle.step_event.proofs.clock.units.Goals as goal
 
 pub returns : goal.returns
 unfolding units_of
-returns c = simp (c.number.ensures, c.regulated-slow.ensures)
+returns c = simp (c.either.ensures, c.regulated-slow.ensures)
