@@ -3,23 +3,24 @@
 
 ghost use Rattle.std.specs.Prelude.{◌≤◌, length};
 
-use log_event::{Event, kinds};
-use log_record::answer::Read;
+use base::refusal::Misread;
+use log_event::Event;
 use std::io::{Print, Write};
 use std::rt::{Env, Files};
 
 // What was read: `record KIND to NEXT`, `refused NUMBER at PLACE`, or `end`.
-fn tell(to: &impl Print, got: Read) {
+fn tell(to: &impl Print, got: Result<Option<(Event, usize)>, Misread>) {
     let _ = match got {
-        Read::Record(e, next) => {
-            let kind = kinds::byte(log_event::kind(e));
+        Ok(Some((e, next))) => {
+            let kind = u8::from(log_event::kind(e));
             println!(to; "record {kind} to {next}")
         }
-        Read::Refused(r, place) => {
-            let number = u32::from(r);
+        Ok(None) => println!(to; "end"),
+        Err(misread) => {
+            let number = u32::from(misread.refusal);
+            let place = misread.place;
             println!(to; "refused {number} at {place}")
         }
-        Read::End => println!(to; "end"),
     };
 }
 
@@ -74,8 +75,7 @@ fn room(to: &impl Print, e: Event, size: usize)
 
 // Its first event, written into rooms from none to one byte more than it has.
 fn rooms(to: &impl Print, log: &[u8]) {
-    let got = log_record::read(log, 0);
-    let Read::Record(e, _) = got else {
+    let Ok(Some((e, _))) = log_record::read(log, 0) else {
         return;
     };
     for size in 0..log_record::width(e) + 2 {

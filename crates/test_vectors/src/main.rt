@@ -10,14 +10,12 @@ mod pairs;
 use std::io::{Print, Write};
 use std::rt::{Env, Files};
 use step_event::walking;
-use step_event::walking::Walked;
 
 // Prints what the model holds after each record of a log of 65,536 bytes at the most: it has no more records.
 fn run(to: &impl Print, log: &[u8]) {
     let mut walk = walking::start();
     for _ in 0..65537 {
-        let got = walking::next(log, walk);
-        let Walked::Record(m) = got else {
+        let Ok(Some(m)) = walking::next(log, walk) else {
             return;
         };
         let _ = held::print(to, m);
