@@ -79,6 +79,7 @@ pub fn serves(first: u32, raw: RawBytes) -> bool
 }
 
 // Whether some setting can't hold what is written.
+#[tactic(auto, unfolding(crate::specs::Runs::bad_run))]
 fn bad_run(p: Profile, first: u32, raw: RawBytes) -> bool
     requires { first + raw.length ≤ 39 }
     ensures { result ≡ bad_run (byte_of (raw_of raw)) first raw.length p }
@@ -94,6 +95,7 @@ fn bad_run(p: Profile, first: u32, raw: RawBytes) -> bool
 }
 
 // What the registers leave, one after the other.
+#[tactic(auto, unfolding(crate::specs::Runs::kept_run))]
 fn kept_run(p: Profile, before: Registers, first: u32, raw: RawBytes, k: Kept) -> Kept
     requires { first + raw.length ≤ 39 }
     ensures { result ≡ kept_run (byte_of (raw_of raw)) first raw.length p before k }
