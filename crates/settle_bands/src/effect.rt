@@ -41,6 +41,7 @@ fn share_by_band(band: Band, cool: u32, warm: u32) -> u32
 }
 
 // The percentage of the charge current that a band leaves.
+#[tactic(auto, unfolding(crate::specs::Effect::share_of))]
 pub fn share(profile: Profile, registers: Registers, band: Band) -> u32
     ensures { result ≡ share_of profile registers band }
 {
@@ -58,6 +59,7 @@ fn is_warm(band: Band) -> bool
 }
 
 // What a band takes off each cell's voltage.
+#[tactic(auto, unfolding(crate::specs::Effect::cut_of))]
 pub fn cut(profile: Profile, registers: Registers, band: Band) -> CellMv
     ensures { result ≡ cut_of profile registers band }
 {
