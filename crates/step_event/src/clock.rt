@@ -18,6 +18,7 @@ use state_parts::watchdog::Watchdog;
 use step_flags::expiry;
 
 // Units of so many ms: one for each while the sample shows any regulation, else two.
+#[tactic(auto, unfolding(crate::specs::Clock::units_of))]
 fn units(old: Sample, ms: u32) -> u32
     requires { ms ≤ 3600000 }
     ensures { result ≡ units_of old ms }
@@ -69,6 +70,7 @@ fn counted(p: Profile, w: Watchdog, ms: u32) -> Watchdog
 }
 
 // The registers, with the overrides cleared where the watchdog expires.
+#[tactic(auto, unfolding(crate::specs::Clock::cleared_if))]
 fn cleared(expires: bool, g: Registers) -> Registers
     ensures { result ≡ cleared_if expires g }
 {

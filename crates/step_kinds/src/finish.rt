@@ -84,6 +84,7 @@ fn flagged(s: State, f: u32) -> State
 }
 
 // Settles what an event wrote; `before` is what was seen of the state before it.
+#[tactic(auto, unfolding(crate::specs::Finish::finish_of))]
 pub fn finish(before: Seen, written: State, way: Way) -> Finished
     ensures { FinishPromise before written way result }
 {

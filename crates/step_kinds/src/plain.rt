@@ -104,6 +104,7 @@ fn kept_in(s: State, k: Kept, serves: bool) -> State
 }
 
 // The same where a run resets the registers: the settings start anew, and the watchdog is at zero either way.
+#[tactic(auto, unfolding(state_registers::specs::Resets::reset_of))]
 fn kept_reset(s: State, k: Kept) -> State
     ensures { result ≡ reset_of (with_kept s k) }
 {
