@@ -32,7 +32,7 @@ use Rattle.c_calls.specs.Showing.{report_ready, report_call_of}
 use Rattle.c_calls.specs.Writing.{write_given, write_call_of}
 use Rattle.c_calls.specs.declared.answer.Answer.{Answer}
 use Rattle.c_calls.specs.Promises.{our_calls, AsLong, KeepsLengths}
-use Rattle.c_calls.proofs.Lands.{ready-long}
+use Rattle.c_calls.proofs.Lands.{ready_long}
 
 put-long : (bytes out : List ℕ) → length (put bytes out) ≡ length out
 unfolding put
@@ -76,12 +76,12 @@ off-long image = go (is_long image) refl
 
 play-long : (image bytes : List ℕ) (place : ℕ) (shown : List ℕ) → AsLong image shown (play_of image bytes place shown)
 unfolding play_of
-play-long image bytes place shown = play-ready (ready_of image (length shown) 28) (record_at kinds bytes place) image place shown (ready-long image (length shown) 28)
+play-long image bytes place shown = play-ready (ready_of image (length shown) 28) (record_at kinds bytes place) image place shown (ready_long image (length shown) 28)
 
 event-long : (image : List ℕ) (kind : ℕ) (words shown : List ℕ) → AsLong image shown (event_call_of image kind words shown)
 unfolding event_call_of
 event-long image kind words shown =
-    let l = event-ready (ready_of image (length shown) 28) (given_of kind words) image shown (ready-long image (length shown) 28) in
+    let l = event-ready (ready_of image (length shown) 28) (given_of kind words) image shown (ready_long image (length shown) 28) in
     record { image = l.image; shown = l.shown }
 
 replay-long : (image bytes : List ℕ) (place : ℕ) → length (replay_of image bytes place).bytes ≡ length image

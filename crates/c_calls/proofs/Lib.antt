@@ -2,9 +2,6 @@
 mod Lands
 pub mod Leaves
 pub mod Lengths
-mod Plays
-mod Replays
 pub mod Numbered
-mod Shows
 mod Writes
 pub mod Contracts

@@ -1,6 +1,8 @@
 -- What every call on an image begins with, and what an event leaves in the lent bytes.
-use Rattle.std.specs.Prelude.{ℕ, Bool, List, [], ◌∷◌, ltb, eqb}
+use Rattle.std.specs.Prelude.{ℕ, Bool, List, [], ◌∷◌, ltb, eqb, Result, Ok, Err}
 use Rattle.base.specs.Pick.{pick, bit_of}
+use Rattle.base.specs.Refusals.{refusal_number}
+use Rattle.base.specs.declared.refusal.Refusal.{Refusal}
 use Rattle.base.specs.Volts.{millivolts_of}
 use Rattle.base.specs.Told.{Told, accepted, refused}
 use Rattle.base.specs.Writing.{put}
@@ -34,10 +36,28 @@ both a image shown = record { answer = a; image = image; shown = shown }
 abbrev pub answered : ℕ → Answer
 answered number = record { number = number; place = 0 }
 
+-- the number of what an event or a call came to, or of a refusal before that
+abbrev pub number_in : Result ℕ Refusal → ℕ
+number_in (Ok number) = number
+number_in (Err r) = refusal_number r
+
+-- "`number` is 0, or the refusal's number", of a call that asks for a number; and that number, which is 0 with a refusal
+abbrev pub number_told : Result ℕ Refusal → ℕ
+number_told (Ok value) = 0
+number_told (Err r) = refusal_number r
+
+abbrev pub value_told : Result ℕ Refusal → ℕ
+value_told (Ok value) = value
+value_told (Err r) = 0
+
 -- "bytes that aren't an image .. are 5 before all else; then an answer buffer that is too short is 12; then what the call is about is judged"
 abbrev pub with_room : Told Model → ℕ → ℕ → Told Model
 with_room (refused number) room wanted = refused number
 with_room (accepted m) room wanted = pick (ltb room wanted) (refused 12) (accepted m)
+
+abbrev pub ready_told : Result Model Refusal → Told Model
+ready_told (Ok m) = accepted m
+ready_told (Err r) = refused (refusal_number r)
 
 unfoldable pub ready_of : List ℕ → ℕ → ℕ → Told Model
 ready_of image room wanted = with_room (model_in image) room wanted

@@ -1,5 +1,6 @@
 -- The calls that look at the model of an image.
-use Rattle.std.specs.Prelude.{ℕ, List, [], ◌∷◌, length}
+use Rattle.std.specs.Prelude.{ℕ, List, [], ◌∷◌, length, Result}
+use Rattle.base.specs.declared.refusal.Refusal.{Refusal}
 use Rattle.base.specs.Volts.{millivolts_of}
 use Rattle.base.specs.Told.{Told, accepted, refused}
 use Rattle.base.specs.Writing.{put}
@@ -12,7 +13,7 @@ use Rattle.report_state.specs.Report.{report_of}
 use Rattle.report_state.specs.Stats.{stat_number, stat_of}
 use Rattle.c_words.specs.Words.{bytes_of}
 use Rattle.c_image.specs.Images.{model_in}
-use Rattle.c_calls.specs.Landing.{Left, left, answered, ready_of}
+use Rattle.c_calls.specs.Landing.{Left, left, answered, ready_of, number_told, value_told}
 use Rattle.c_calls.specs.declared.answer.Answer.{Answer}
 use Rattle.c_calls.specs.declared.answer.Byte.{Byte}
 
@@ -35,6 +36,10 @@ report_call_of image report = report_ready (ready_of image (length report) 24) r
 abbrev pub byte_told : Told ℕ → Byte
 byte_told (accepted byte) = record { number = 0; byte = byte; place = 0 }
 byte_told (refused number) = record { number = number; byte = 0; place = 0 }
+
+-- a byte, or a refusal
+abbrev pub byte_in : Result ℕ Refusal → Byte
+byte_in got = record { number = number_told got; byte = value_told got; place = 0 }
 
 abbrev pub register_in : Told Model → ℕ → Told ℕ
 register_in (refused number) address = refused number

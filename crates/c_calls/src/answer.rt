@@ -1,6 +1,8 @@
 // What the calls answer: a number, 0 or the refusal's, its place, and what the call is about.
 ghost use Rattle.std.specs.Prelude.{◌≡◌};
-ghost use Rattle.c_calls.specs.Landing.{answered};
+ghost use Rattle.c_calls.specs.Landing.{answered, number_in, number_told, value_told};
+
+use base::refusal::Refusal;
 
 #[repr(C)]
 #[derive(Clone, Copy)]
@@ -9,11 +11,26 @@ pub struct Answer {
     pub place: usize,
 }
 
-// Outside a log.
-pub(crate) fn answered(number: u32) -> Answer
-    ensures { result ≡ answered number }
+// Outside a log: the number of what an event or a call came to, or of a refusal before that.
+pub(crate) fn answered(got: Result<u32, Refusal>) -> Answer
+    ensures { result ≡ answered (number_in got) }
 {
+    let number = match got {
+        Ok(number) => number,
+        Err(refusal) => u32::from(refusal),
+    };
     Answer { number, place: 0 }
+}
+
+// What a call came to as its number, 0 or the refusal's, and what it asked for, 0 with a refusal.
+pub(crate) fn told(got: Result<u32, Refusal>) -> (u32, u32)
+    ensures number { result.0 ≡ number_told got }
+    ensures value { result.1 ≡ value_told got }
+{
+    match got {
+        Ok(value) => (0, value),
+        Err(refusal) => (u32::from(refusal), 0),
+    }
 }
 
 #[repr(C)]

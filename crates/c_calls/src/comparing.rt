@@ -5,31 +5,19 @@ use crate::answer::ComparedLogs;
 use log_pairs::answer::Compared;
 
 // Reads two logs side by side.
+#[tactic(auto, unfolding(crate::specs::Comparing::compare_call_of))]
 pub fn cheukdane_compare(first: &[u8], second: &[u8]) -> ComparedLogs
     ensures { ComparePromise first.now second.now result }
 {
-    let compared = log_pairs::compare(first, second);
-    match compared {
-        Compared::First(place) => ComparedLogs {
-            number: 0,
-            log: 1,
-            count: 0,
-            place,
-        },
-        Compared::Second(place) => ComparedLogs {
-            number: 0,
-            log: 2,
-            count: 0,
-            place,
-        },
-        Compared::Refused(r, count, place) => {
-            let number = u32::from(r);
-            ComparedLogs {
-                number,
-                log: 0,
-                count,
-                place,
-            }
-        }
+    let (number, log, count, place) = match log_pairs::compare(first, second) {
+        Compared::First(place) => (0, 1, 0, place),
+        Compared::Second(place) => (0, 2, 0, place),
+        Compared::Refused(refusal, count, place) => (u32::from(refusal), 0, count, place),
+    };
+    ComparedLogs {
+        number,
+        log,
+        count,
+        place,
     }
 }

@@ -2,17 +2,30 @@
 ghost use Rattle.std.specs.Prelude.{◌≡◌, length};
 ghost use Rattle.step_event.specs.Walks.{came_told};
 ghost use Rattle.c_image.specs.Images.{image_length};
-ghost use Rattle.c_calls.specs.Landing.{both, shown_numbers, land_of};
+ghost use Rattle.c_calls.specs.Landing.{both, ready_told, ready_of, shown_numbers, land_of};
 
 use base::choice;
+use base::refusal::Refusal;
 use report_state::report;
-use state_parts::phase;
 use state_parts::state::Model;
 use step_event::walking::Walk;
+
+// The model of an image, for an answer buffer that has so many bytes and must have as many as are wanted.
+#[tactic(auto, unfolding(crate::specs::Landing::ready_of))]
+pub(crate) fn ready(image: &[u8], room: usize, wanted: usize) -> Result<Model, Refusal>
+    ensures { ready_told result ≡ ready_of image.now room wanted }
+{
+    let model = c_image::load(image).ok_or(Refusal::OutOfRange)?;
+    if room < wanted {
+        return Err(Refusal::NoRoom);
+    }
+    Ok(model)
+}
 
 // What an accepted event shows.
 type Shown = [u32; 7];
 
+#[tactic(auto, unfolding(crate::specs::Landing::shown_numbers))]
 fn shown_numbers(m: Model, pulse: bool, handed: u32) -> Shown
     ensures { result ≡ shown_numbers m pulse handed }
 {
@@ -20,20 +33,19 @@ fn shown_numbers(m: Model, pulse: bool, handed: u32) -> Shown
     match m {
         Model::Off => [0, 0, 0, 0, beat, 0, handed],
         Model::On(s) => {
-            let flags = s.flags;
             let told = report::report(s);
-            let at = told.phase;
-            let pack = told.voltage;
+            let phase = u32::from(told.phase);
             let current = told.current;
+            let voltage = u32::from(told.voltage);
             let limit = told.limit;
-            let phase = phase::number(at);
-            let voltage = u32::from(pack);
+            let flags = s.flags;
             [phase, current, voltage, limit, beat, flags, handed]
         }
     }
 }
 
 // Leaves what an event came to, the only one of a walk, in the image and the answer buffer: its number.
+#[tactic(auto, unfolding(crate::specs::Landing::land_of, c_image::specs::Images::saved_in))]
 pub(crate) fn land(image: &mut [u8], shown: &mut [u8], walk: Walk) -> u32
     requires { length image.old ≡ image_length }
     ensures { both result image.new shown.new ≡ land_of (came_told walk) image.old shown.old }
@@ -44,7 +56,8 @@ pub(crate) fn land(image: &mut [u8], shown: &mut [u8], walk: Walk) -> u32
         return came.number;
     }
     let numbers = shown_numbers(after, came.pulse, came.handed);
-    c_words::write(shown, &numbers);
+    // It has room for seven words where an event is played, and is left as it is elsewhere.
+    let _ = c_words::write(shown, &numbers);
     c_image::save(image, after);
     0
 }
