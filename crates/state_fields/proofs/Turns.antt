@@ -1,13 +1,14 @@
 -- The stored fields of one register: which they are, and one's turn.
 use Prim.Native.Nat.{ℕ, ◌+◌, ◌*◌, ◌≤◌, ◌<◌}
-use mathlib.Core.Path.{◌≡◌, refl, sym, ◌∙◌}
+use mathlib.Core.Path.{◌≡◌, refl, ap, ◌∙◌}
 use mathlib.Core.Bool.{Bool, true, false, ◌&&◌}
 use borrow.Author.Tests.{eq-eqb, ne_eqb}
 use lib.Dec.{eqb}
 use Rattle.base.specs.Pick.{pick}
 use Rattle.state_parts.specs.declared.words.Words.{Words}
 use Rattle.state_table.specs.Rows.{Field, fields, digit_of, is_stored}
-use Rattle.state_table.specs.Packed.{field_at, below}
+use Rattle.state_table.specs.Packed.{field_at, row_of, below}
+use Rattle.state_table.specs.declared.Row.{Row}
 use Rattle.state_table.proofs.Turns.{its-address}
 use Rattle.state_fields.specs.Words.{bits_at, put_in}
 use Rattle.state_fields.specs.Held.{with_field}
@@ -30,10 +31,9 @@ module _ (a value : ℕ) where
   all_of true t e = e
   all_of false t e = refl
 
-  pub taken-turn : (i : ℕ) → below a fields ≤ i → i < below (a + 1) fields → (u next : Words) (low width : ℕ) (stored : Bool)
-      → stored ≡ is_stored (field_at i).access → low ≡ (field_at i).low → width ≡ (field_at i).width
-      → next ≡ pick stored (put_in (a * 8 + low) width (bits_at low width value) u) u → next ≡ pick (on (field_at i)) (step u (field_at i)) u
-  taken-turn i first last u next low width stored es el ew e =
-      let there = its-address a i first last in
-      let kept : stored ≡ on (field_at i) = es ∙ sym (all_of (is_stored (field_at i).access) (eqb (field_at i).address a) (eq-eqb (field_at i).address a there)) in
-      e ∙ rw (kept, el, ew, there) refl
+  pub taken-turn : (i : ℕ) → below a fields ≤ i → i < below (a + 1) fields → (r : Row) → r ≡ row_of (field_at i) → (u next : Words)
+      → next ≡ pick (is_stored r.access) (put_in (r.address * 8 + r.low) r.width (bits_at r.low r.width value) u) u → next ≡ pick (on (field_at i)) (step u (field_at i)) u
+  taken-turn i first last r er u next e =
+      let f = field_at i in
+      let kept : on f ≡ is_stored f.access = all_of (is_stored f.access) (eqb f.address a) (eq-eqb f.address a (its-address a i first last)) in
+      e ∙ ap (λ (x : Row). pick (is_stored x.access) (put_in (x.address * 8 + x.low) x.width (bits_at x.low x.width value) u) u) er ∙ rw kept refl

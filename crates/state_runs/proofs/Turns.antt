@@ -9,7 +9,6 @@ use Rattle.state_table.specs.Rows.{Field, fields, digit_of}
 use Rattle.state_table.specs.Packed.{field_at, row_of, below}
 use Rattle.state_table.specs.declared.Access.{Access}
 use Rattle.state_table.specs.declared.Row.{Row}
-use Rattle.state_table.proofs.Parts.{low-is, width_is, access-is}
 use Rattle.state_table.proofs.Turns.{its-address}
 
 module _ (a : ℕ) where
@@ -24,8 +23,8 @@ module _ (a : ℕ) where
     abbrev pub step : A → Field → A
     step u f = by f.access (digit_of f value) u
 
-    pub code-turn : (i : ℕ) → below a fields ≤ i → i < below (a + 1) fields → (r : Row) → r ≡ row_of (field_at i) → (u next : A) (code : ℕ)
-        → code ≡ value / 2 ^ r.low % 2 ^ r.width → next ≡ by r.access code u → next ≡ pick (on (field_at i)) (step u (field_at i)) u
-    code-turn i first last r er u next code ec e =
+    pub code-turn : (i : ℕ) → below a fields ≤ i → i < below (a + 1) fields → (r : Row) → r ≡ row_of (field_at i) → (u next : A)
+        → next ≡ by r.access (value / 2 ^ r.low % 2 ^ r.width) u → next ≡ pick (on (field_at i)) (step u (field_at i)) u
+    code-turn i first last r er u next e =
         let there = its-address a i first last in
-        e ∙ ap (λ (n : ℕ). by r.access n u) ec ∙ rw (low-is r i er, width_is r i er, access-is r i er, eq-eqb (field_at i).address a there) refl
+        e ∙ ap (λ (x : Row). by x.access (value / 2 ^ x.low % 2 ^ x.width) u) er ∙ rw (eq-eqb (field_at i).address a there) refl

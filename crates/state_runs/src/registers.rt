@@ -1,7 +1,7 @@
 // What one register of a run takes.
-ghost use Rattle.std.specs.Prelude.{◌≡◌, true, ◌+◌, ◌-◌, ◌/◌, ◌%◌, ◌^◌, ◌≤◌, eqb};
+ghost use Rattle.std.specs.Prelude.{◌≡◌, ◌+◌, ◌-◌, ◌/◌, ◌%◌, ◌^◌, ◌≤◌, eqb};
 ghost use Rattle.base.specs.Pick.{pick};
-ghost use Rattle.state_table.specs.Packed.{fits_access, second_of};
+ghost use Rattle.state_table.specs.Packed.{FitsRow};
 ghost use Rattle.state_runs.specs.Registers.{masked, setting_by, settings_taken, bad_by, bad_register, register_taken};
 
 use base::choice;
@@ -14,7 +14,7 @@ use state_parts::words::Words;
 use state_registers::writing;
 use state_settings::numbered::store;
 use state_settings::ranges::may_hold;
-use state_table::{Access, row_at, rows_below};
+use state_table::{Access, Row, row_at, rows_below};
 
 // What runs change of a state.
 #[derive(Clone, Copy)]
@@ -25,12 +25,12 @@ pub struct Kept {
 }
 
 // A field's code of its register's value.
-fn digit(value: u32, low: u32, width: u32) -> u32
-    requires { (low ≤ 15) × (width ≤ 16) }
-    ensures { (result ≡ value / 2 ^ low % 2 ^ width) × (result ≤ 65535) }
+fn digit(row: Row, value: u32) -> u32
+    requires { FitsRow row }
+    ensures { (result ≡ value / 2 ^ row.low % 2 ^ row.width) × (result ≤ 65535) }
 {
-    let unit = power(low);
-    let most = power(width);
+    let unit = power(row.low);
+    let most = power(row.width);
     ((value as u64) / unit % most) as u32
 }
 
@@ -57,21 +57,15 @@ fn mask_bits(masks: u32, first: u32, count: u32, code: u32) -> u32
 }
 
 // The settings with what a field's code says.
-fn set_by(access: Access, code: u32, t: Settings) -> Settings
-    requires { (fits_access access ≡ true) × (second_of access ≤ 255) × (code ≤ 65535) }
-    ensures { result ≡ setting_by access code t }
+fn set_by(row: Row, value: u32, t: Settings) -> Settings
+    requires { FitsRow row }
+    ensures { result ≡ setting_by row.access (value / 2 ^ row.low % 2 ^ row.width) t }
 {
-    match access {
-        Access::Reserved => t,
-        Access::Fixed(_) => t,
-        Access::Status(_) => t,
-        Access::Flag(_, _) => t,
-        Access::Stored => t,
+    let code = digit(row, value);
+    match row.access {
         Access::Setting(number, step) => store(t, number, code * step),
         Access::Mask(first, count) => store(t, 14, mask_bits(t.masks, first, count, code)),
-        Access::Counted => t,
-        Access::Pin(_) => t,
-        Access::Acts(_) => t,
+        _ => t,
     }
 }
 
@@ -82,35 +76,23 @@ pub fn settings_taken(p: Profile, t: Settings, address: u32, value: u32) -> Sett
     if 38 < address {
         return t;
     }
-    let last = rows_below(address + 1);
     let mut u = t;
-    let mut i = rows_below(address);
-    while i < last {
+    for i in rows_below(address)..rows_below(address + 1) {
         let row = row_at(i);
-        let access = row.access;
-        let code = digit(value, row.low, row.width);
-        u = set_by(access, code, u);
-        i += 1;
+        u = set_by(row, value, u);
     }
     u
 }
 
 // Whether a field's setting can't hold what its code says.
-fn bad_by(p: Profile, access: Access, code: u32) -> bool
-    requires { (second_of access ≤ 255) × (code ≤ 65535) }
-    ensures { result ≡ bad_by p access code }
+fn bad_by(p: Profile, row: Row, value: u32) -> bool
+    requires { FitsRow row }
+    ensures { result ≡ bad_by p row.access (value / 2 ^ row.low % 2 ^ row.width) }
 {
-    match access {
-        Access::Reserved => false,
-        Access::Fixed(_) => false,
-        Access::Status(_) => false,
-        Access::Flag(_, _) => false,
-        Access::Stored => false,
+    let code = digit(row, value);
+    match row.access {
         Access::Setting(number, step) => !may_hold(p, number, code * step),
-        Access::Mask(_, _) => false,
-        Access::Counted => false,
-        Access::Pin(_) => false,
-        Access::Acts(_) => false,
+        _ => false,
     }
 }
 
@@ -121,15 +103,10 @@ pub fn bad_register(p: Profile, address: u32, value: u32) -> bool
     if 38 < address {
         return false;
     }
-    let last = rows_below(address + 1);
     let mut bad = false;
-    let mut i = rows_below(address);
-    while i < last {
+    for i in rows_below(address)..rows_below(address + 1) {
         let row = row_at(i);
-        let access = row.access;
-        let code = digit(value, row.low, row.width);
-        bad = bad | bad_by(p, access, code);
-        i += 1;
+        bad = bad | bad_by(p, row, value);
     }
     bad
 }

@@ -85,11 +85,9 @@ fn bad_run(p: Profile, first: u32, raw: RawBytes) -> bool
     ensures { result ≡ bad_run (byte_of (raw_of raw)) first raw.length p }
 {
     let mut bad = false;
-    let mut i: u32 = 0;
-    while i < raw.length {
+    for i in 0..raw.length {
         let value = value_in(raw, i);
         bad = bad | bad_register(p, first + i, value);
-        i += 1;
     }
     bad
 }
@@ -101,11 +99,9 @@ fn kept_run(p: Profile, before: Registers, first: u32, raw: RawBytes, k: Kept) -
     ensures { result ≡ kept_run (byte_of (raw_of raw)) first raw.length p before k }
 {
     let mut u = k;
-    let mut i: u32 = 0;
-    while i < raw.length {
+    for i in 0..raw.length {
         let value = value_in(raw, i);
         u = register_taken(p, before, first + i, value, u);
-        i += 1;
     }
     u
 }

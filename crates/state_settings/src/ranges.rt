@@ -19,88 +19,42 @@ pub fn known(p: Profile, number: u32) -> bool
     (1 <= number) & (number <= 14)
 }
 
-// The table's row of a number: settings 1 to 14 at theirs, and nothing is in the range at 0. A `match`, since an array would be laid on the stack.
+// A range in one line.
+macro_rules! range {
+    ($low:literal, $high:literal, $step:literal) => {
+        Range {
+            low: $low,
+            high: $high,
+            step: $step,
+        }
+    };
+}
+
+// A row for each setting at its number; nothing is in the range at 0.
+static RANGES: [Range; 15] = [
+    range!(1, 0, 1),
+    range!(2400, 33000, 10), // VREG
+    range!(40, 3300, 20), // ICHG
+    range!(20, 620, 20), // IPRECHG
+    range!(20, 620, 20), // ITERM
+    range!(40, 3300, 20), // IINDPM
+    range!(3000, 28000, 20), // VSYSMIN
+    range!(0, 3, 1), // VBAT_LOWV
+    range!(0, 3, 1), // VRECHG
+    range!(0, 1, 1), // EN_CHG
+    range!(0, 1, 1), // EN_TERM
+    range!(0, 1, 1), // EN_HIZ
+    range!(0, 1, 1), // EN_EXTILIM
+    range!(0, 1, 1), // DIS_STAT_PIN
+    range!(0, 4095, 1), // masks
+];
+
+// The row of a number; the numbers go round.
 #[tactic(auto, unfolding(crate::specs::Ranges::range_of, crate::specs::Ranges::ranges))]
 fn range_of(p: Profile, number: u32) -> Range
     ensures { result ≡ range_of p number }
 {
-    match number % 15 {
-        0 => Range {
-            low: 1,
-            high: 0,
-            step: 1,
-        },
-        1 => Range {
-            low: 2400,
-            high: 33000,
-            step: 10,
-        },
-        2 => Range {
-            low: 40,
-            high: 3300,
-            step: 20,
-        },
-        3 => Range {
-            low: 20,
-            high: 620,
-            step: 20,
-        },
-        4 => Range {
-            low: 20,
-            high: 620,
-            step: 20,
-        },
-        5 => Range {
-            low: 40,
-            high: 3300,
-            step: 20,
-        },
-        6 => Range {
-            low: 3000,
-            high: 28000,
-            step: 20,
-        },
-        7 => Range {
-            low: 0,
-            high: 3,
-            step: 1,
-        },
-        8 => Range {
-            low: 0,
-            high: 3,
-            step: 1,
-        },
-        9 => Range {
-            low: 0,
-            high: 1,
-            step: 1,
-        },
-        10 => Range {
-            low: 0,
-            high: 1,
-            step: 1,
-        },
-        11 => Range {
-            low: 0,
-            high: 1,
-            step: 1,
-        },
-        12 => Range {
-            low: 0,
-            high: 1,
-            step: 1,
-        },
-        13 => Range {
-            low: 0,
-            high: 1,
-            step: 1,
-        },
-        _ => Range {
-            low: 0,
-            high: 4095,
-            step: 1,
-        },
-    }
+    RANGES[(number % 15) as usize]
 }
 
 // A value of a range that lies on its step.

@@ -1,7 +1,7 @@
 -- The parts of a row are its field's, with their bounds.
 use Prim.Native.Nat.{ℕ, ◌≤◌}
 use mathlib.Core.Path.{◌≡◌, sym, ap, subst}
-use Rattle.state_table.specs.Packed.{field_at, row_of}
+use Rattle.state_table.specs.Packed.{field_at, row_of, FitsRow}
 use Rattle.state_table.specs.declared.Row.{Row}
 use Rattle.state_table.proofs.Tested.{field_fits}
 use Rattle.state_table.proofs.Unpacked.{Fit, fit}
@@ -30,3 +30,8 @@ module _ (r : Row) (i : ℕ) (e : r ≡ row_of (field_at i)) where
 
   pub width-most : r.width ≤ 16
   width-most = subst (λ (n : ℕ). n ≤ 16) (sym width_is) row_fits.width
+
+  pub fits_row : FitsRow r
+  fits_row =
+      let f = row_fits in
+      subst FitsRow (sym e) (record { address = f.address; low = f.low; width = f.width; one_word = f.one_word; second = f.second; access = f.access })

@@ -1,6 +1,5 @@
--- The table as the code has it: a number for each field, in hexadecimal digits two for the address, one for the lowest bit, two for the width, one for the kind of access and two
--- for each number that the access carries.
-use Rattle.std.specs.Prelude.{ℕ, ◌+◌, ◌*◌, ◌/◌, ◌%◌, leb, eqb, ltb, get_or, Bool, true, false, ◌&&◌, List, [], ◌∷◌}
+-- The table as the code has it: a row for each field, by its place.
+use Rattle.std.specs.Prelude.{◌≡◌, ◌≤◌, ℕ, ◌*◌, ◌+◌, ◌%◌, leb, eqb, ltb, get_or, Bool, true, false, ◌&&◌, List, [], ◌∷◌}
 use Rattle.base.specs.Pick.{pick}
 use Rattle.state_parts.specs.declared.profile.Profile.{Profile}
 use Rattle.state_table.specs.Rows.{Field, row, fields, fields_of, bit_of}
@@ -45,32 +44,6 @@ second_of Counted = 0
 second_of (Pin number) = 0
 second_of (Acts number) = 0
 
--- an access of these numbers
-unfoldable pub access_by : ℕ → ℕ → ℕ → Access
-access_by kind first second =
-    pick (eqb kind 0) Reserved
-    (pick (eqb kind 1) (Fixed first)
-    (pick (eqb kind 2) (Status first)
-    (pick (eqb kind 3) (Flag first second)
-    (pick (eqb kind 4) Stored
-    (pick (eqb kind 5) (Setting first second)
-    (pick (eqb kind 6) (Mask first second)
-    (pick (eqb kind 7) Counted
-    (pick (eqb kind 8) (Pin first) (Acts first)))))))))
-
-abbrev pub packed_of : Field → ℕ
-packed_of f =
-    f.address * 0x100000000 + f.low * 0x10000000 + f.width * 0x100000 + kind_of f.access * 0x10000 + first_of f.access * 0x100
-    + second_of f.access
-
-unfoldable pub row_by : ℕ → Row
-row_by n = record {
-  address = n / 0x100000000;
-  low = n / 0x10000000 % 16;
-  width = n / 0x100000 % 256;
-  access = access_by (n / 0x10000 % 16) (n / 0x100 % 256) (n % 256);
-}
-
 -- what the code has of a field
 abbrev pub row_of : Field → Row
 row_of f = record { address = f.address; low = f.low; width = f.width; access = f.access }
@@ -84,9 +57,6 @@ no_field = row 0 0 0 Reserved 0 false
 
 unfoldable pub field_at : ℕ → Field
 field_at number = get_or fields (number % field_count) no_field
-
-unfoldable pub packed_at : ℕ → ℕ
-packed_at number = packed_of (field_at number)
 
 -- how many fields stand before the first one of an address
 abbrev pub below : ℕ → List Field → ℕ
@@ -115,3 +85,12 @@ unfoldable pub fits : Field → Bool
 fits f =
     leb f.address 38 && leb f.low 15 && leb f.width 16 && leb (bit_of f % 64 + f.width) 64 && leb (first_of f.access) 255
     && leb (second_of f.access) 255 && fits_access f.access
+
+-- what the code needs of a row, and every row has
+pub record FitsRow (r : Row) : Type 0 where
+  pub address : r.address ≤ 38
+  pub low : r.low ≤ 15
+  pub width : r.width ≤ 16
+  pub one_word : (r.address * 8 + r.low) % 64 + r.width ≤ 64
+  pub second : second_of r.access ≤ 255
+  pub access : fits_access r.access ≡ true

@@ -1,9 +1,9 @@
 // The table of register fields as the code has it: where each stands, and what stands in it.
 #![tactic(auto)]
 
-ghost use Rattle.std.specs.Prelude.{◌≡◌, true, ◌≤◌};
+ghost use Rattle.std.specs.Prelude.{◌≡◌};
 ghost use Rattle.state_table.specs.Rows.{fields};
-ghost use Rattle.state_table.specs.Packed.{access_by, row_by, row_of, field_at, packed_at, below};
+ghost use Rattle.state_table.specs.Packed.{row_of, field_at, below};
 
 // What stands in a field.
 #[derive(Clone, Copy)]
@@ -41,205 +41,174 @@ pub struct Row {
 // How many fields there are.
 pub const FIELDS: u32 = 147;
 
-// A field's number, from bit 0 of 0x00 up: two digits for the address, one for the lowest bit, two for the width, one for the kind of access, two and two for what it carries.
-// specs/Rows.antt is the table to read. A `match`, since an array would be laid on the stack.
-#[tactic(auto, unfolding(crate::specs::Packed::packed_at, crate::specs::Packed::field_at, crate::specs::Rows::fields))]
-fn packed(number: u32) -> u64
-    ensures { result ≡ packed_at number }
-{
-    match number % FIELDS {
-        0 => 0x0000400000, // -
-        1 => 0x0040B50614, // VSYSMIN
-        2 => 0x00F0100000, // -
-        3 => 0x0200400000, // -
-        4 => 0x0240850214, // ICHG
-        5 => 0x02C0400000, // -
-        6 => 0x0400300000, // -
-        7 => 0x0430C5010A, // VREG
-        8 => 0x04F0100000, // -
-        9 => 0x0600400000, // -
-        10 => 0x0640850514, // IINDPM
-        11 => 0x06C0400000, // -
-        12 => 0x0800400000, // -
-        13 => 0x0840B40000, // VINDPM
-        14 => 0x08F0100000, // -
-        15 => 0x0A00400000, // -
-        16 => 0x0A40840000, // IIN_REV
-        17 => 0x0AC0400000, // -
-        18 => 0x0C00400000, // -
-        19 => 0x0C40B40000, // VIN_REV
-        20 => 0x0CF0100000, // -
-        21 => 0x0E00650314, // IPRECHG
-        22 => 0x0E60200000, // -
-        23 => 0x0F00650414, // ITERM
-        24 => 0x0F60200000, // -
-        25 => 0x1000140000, // EN_PRECHG
-        26 => 0x1010250701, // VBAT_LOWV
-        27 => 0x1030150A01, // EN_TERM
-        28 => 0x1040250801, // VRECHG
-        29 => 0x1060150D01, // DIS_STAT
-        30 => 0x1070190000, // REG_RST
-        31 => 0x1100140000, // EN_TMR2X
-        32 => 0x1110240000, // CHG_TMR
-        33 => 0x1130140000, // EN_CHG_TMR
-        34 => 0x1140240000, // WATCHDOG
-        35 => 0x1160240000, // TOPOFF_TMR
-        36 => 0x1200140000, // PRECHG_TMR
-        37 => 0x1210140000, // STOP_WD_CHG
-        38 => 0x1220190100, // WD_RST
-        39 => 0x1230140000, // EN_EXT_BYPASS
-        40 => 0x1240140000, // EN_BYPASS
-        41 => 0x1250140000, // RBAT_SNS
-        42 => 0x1260240000, // IBAT_REV
-        43 => 0x1300140000, // EN_BACKUP
-        44 => 0x1310140000, // EN_REV
-        45 => 0x1320140000, // RAC_SNS
-        46 => 0x1330140000, // FORCE_VIN_DSCHG
-        47 => 0x1340150B01, // EN_HIZ
-        48 => 0x1350150901, // EN_CHG
-        49 => 0x1360140000, // FORCE_ISYS_DSCHG
-        50 => 0x1370140000, // EN_AUTO_DSCHG
-        51 => 0x1400140000, // EN_ICO
-        52 => 0x1410140000, // FORCE_ICO
-        53 => 0x1420140000, // FORCE_VINDPM
-        54 => 0x1430140000, // EN_BAT_DETECT
-        55 => 0x1440140000, // BATFET_CTRL
-        56 => 0x1450150C01, // EN_EXTILIM
-        57 => 0x1460240000, // VIN_BACKUP
-        58 => 0x1500240000, // VBAT_DETECT
-        59 => 0x1520100000, // -
-        60 => 0x1530140000, // EN_FAST_VOTG_RESPONSE
-        61 => 0x1540400000, // -
-        62 => 0x1600340000, // FSW
-        63 => 0x1630240000, // EN_DITHER
-        64 => 0x1650140000, // TREG
-        65 => 0x1660140000, // EN_PFM_OOA
-        66 => 0x1670140000, // EN_PFM
-        67 => 0x1700140000, // EN_MPPT
-        68 => 0x1710240000, // VOC_RATE
-        69 => 0x1730240000, // VOC_DLY
-        70 => 0x1750340000, // VOC_PCT
-        71 => 0x1800240000, // TS_TH1
-        72 => 0x1820240000, // TS_TH2
-        73 => 0x1840240000, // TS_TH3
-        74 => 0x1860240000, // TS_TH5
-        75 => 0x1900140000, // EN_TS
-        76 => 0x1910140000, // EN_JEITA
-        77 => 0x1920240000, // JEITA_ISETC
-        78 => 0x1940140000, // JEITA_ISETH
-        79 => 0x1950240000, // JEITA_VSET
-        80 => 0x1970140000, // EN_BYPASS_LL_EXIT
-        81 => 0x1A00440000, // CV_TMR
-        82 => 0x1A40100000, // -
-        83 => 0x1A50140000, // TS_REV_COLD
-        84 => 0x1A60240000, // TS_REV_HOT
-        85 => 0x1B00370000, // CELL_PIN
-        86 => 0x1B30380000, // VCHG_PIN
-        87 => 0x1B60140000, // CELL_PIN_OVERRIDE
-        88 => 0x1B70140000, // VCHG_PIN_OVERRIDE
-        89 => 0x1C00380100, // ICHG_PIN
-        90 => 0x1C30140000, // ICHG_PIN_OVERRIDE
-        91 => 0x1C40400000, // -
-        92 => 0x1D00320000, // CHARGE_STAT
-        93 => 0x1D30120100, // WD_STAT
-        94 => 0x1D40120200, // TREG_STAT
-        95 => 0x1D50120300, // VINDPM_STAT
-        96 => 0x1D60120400, // IINDPM_STAT
-        97 => 0x1D70120500, // PG_STAT
-        98 => 0x1E00320600, // TS_STAT
-        99 => 0x1E30210000, // REV_STAT
-        100 => 0x1E50210000, // ICO_STAT
-        101 => 0x1E70100000, // -
-        102 => 0x1F00110000, // REV_TERM_STAT
-        103 => 0x1F10100000, // -
-        104 => 0x1F20120700, // TSHUT_STAT
-        105 => 0x1F30110000, // CV_TMR_STAT
-        106 => 0x1F40120800, // CHG_TMR_STAT
-        107 => 0x1F50220900, // BAT_FAULT_STAT
-        108 => 0x1F70120A00, // VIN_OVP_STAT
-        109 => 0x2000130601, // CHARGE_FLAG
-        110 => 0x2010130701, // TS_FLAG
-        111 => 0x2020110000, // ICO_FLAG
-        112 => 0x2030130501, // WD_FLAG
-        113 => 0x2040130401, // TREG_FLAG
-        114 => 0x2050130301, // VINDPM_FLAG
-        115 => 0x2060130201, // IINDPM_FLAG
-        116 => 0x2070130002, // PG_FLAG
-        117 => 0x2100110000, // REV_FLAG
-        118 => 0x2110100000, // -
-        119 => 0x2120110000, // BYPASS_FLAG
-        120 => 0x2130130901, // TSHUT_FLAG
-        121 => 0x2140110000, // CV_TMR_FLAG
-        122 => 0x2150130B01, // CHG_TMR_FLAG
-        123 => 0x2160130A01, // BAT_FAULT_FLAG
-        124 => 0x2170130801, // VIN_OVP_FLAG
-        125 => 0x2200160601, // CHARGE_MASK
-        126 => 0x2210160701, // TS_MASK
-        127 => 0x2220140000, // ICO_MASK
-        128 => 0x2230160501, // WD_MASK
-        129 => 0x2240160401, // TREG_MASK
-        130 => 0x2250160301, // VINDPM_MASK
-        131 => 0x2260160201, // IINDPM_MASK
-        132 => 0x2270160002, // PG_MASK
-        133 => 0x2300140000, // REV_MASK
-        134 => 0x2310100000, // -
-        135 => 0x2320140000, // BYPASS_MASK
-        136 => 0x2330160901, // TSHUT_MASK
-        137 => 0x2340140000, // CV_TMR_MASK
-        138 => 0x2350160B01, // CHG_TMR_MASK
-        139 => 0x2360160A01, // BAT_FAULT_MASK
-        140 => 0x2370160801, // VIN_OVP_MASK
-        141 => 0x2400400000, // -
-        142 => 0x244081A500, // ICO_IINDPM
-        143 => 0x24C0400000, // -
-        144 => 0x2600210100, // DEV_REV
-        145 => 0x2620410100, // PN
-        _ => 0x2660200000, // -
-    }
+// A row in one line.
+macro_rules! row {
+    ($address:literal, $low:literal, $width:literal, $access:expr) => {
+        Row {
+            address: $address,
+            low: $low,
+            width: $width,
+            access: $access,
+        }
+    };
 }
 
-// An access by its kind and what it carries.
-#[tactic(auto, unfolding(crate::specs::Packed::access_by))]
-fn access_by(kind: u32, first: u32, second: u32) -> Access
-    ensures { result ≡ access_by kind first second }
-{
-    match kind {
-        0 => Access::Reserved,
-        1 => Access::Fixed(first),
-        2 => Access::Status(first),
-        3 => Access::Flag(first, second),
-        4 => Access::Stored,
-        5 => Access::Setting(first, second),
-        6 => Access::Mask(first, second),
-        7 => Access::Counted,
-        8 => Access::Pin(first),
-        _ => Access::Acts(first),
-    }
-}
-
-// A row of its number.
-#[tactic(auto, unfolding(crate::specs::Packed::row_by))]
-fn row_by(n: u64) -> Row
-    requires { n ≤ 0xFFFFFFFFFF }
-    ensures { result ≡ row_by n }
-{
-    let kind = (n / 0x10000 % 16) as u32;
-    let first = (n / 0x100 % 256) as u32;
-    let second = (n % 256) as u32;
-    let access = access_by(kind, first, second);
-    Row {
-        address: (n / 0x100000000) as u32,
-        low: (n / 0x10000000 % 16) as u32,
-        width: (n / 0x100000 % 256) as u32,
-        access: access,
-    }
-}
+// From bit 0 of 0x00 up, as specs/Rows has them. A static lies in the program alone: a constant of this size would be laid on the stack.
+static ROWS: [Row; 147] = [
+    row!(0x00, 0, 4, Access::Reserved), // -
+    row!(0x00, 4, 11, Access::Setting(6, 20)), // VSYSMIN
+    row!(0x00, 15, 1, Access::Reserved), // -
+    row!(0x02, 0, 4, Access::Reserved), // -
+    row!(0x02, 4, 8, Access::Setting(2, 20)), // ICHG
+    row!(0x02, 12, 4, Access::Reserved), // -
+    row!(0x04, 0, 3, Access::Reserved), // -
+    row!(0x04, 3, 12, Access::Setting(1, 10)), // VREG
+    row!(0x04, 15, 1, Access::Reserved), // -
+    row!(0x06, 0, 4, Access::Reserved), // -
+    row!(0x06, 4, 8, Access::Setting(5, 20)), // IINDPM
+    row!(0x06, 12, 4, Access::Reserved), // -
+    row!(0x08, 0, 4, Access::Reserved), // -
+    row!(0x08, 4, 11, Access::Stored), // VINDPM
+    row!(0x08, 15, 1, Access::Reserved), // -
+    row!(0x0A, 0, 4, Access::Reserved), // -
+    row!(0x0A, 4, 8, Access::Stored), // IIN_REV
+    row!(0x0A, 12, 4, Access::Reserved), // -
+    row!(0x0C, 0, 4, Access::Reserved), // -
+    row!(0x0C, 4, 11, Access::Stored), // VIN_REV
+    row!(0x0C, 15, 1, Access::Reserved), // -
+    row!(0x0E, 0, 6, Access::Setting(3, 20)), // IPRECHG
+    row!(0x0E, 6, 2, Access::Reserved), // -
+    row!(0x0F, 0, 6, Access::Setting(4, 20)), // ITERM
+    row!(0x0F, 6, 2, Access::Reserved), // -
+    row!(0x10, 0, 1, Access::Stored), // EN_PRECHG
+    row!(0x10, 1, 2, Access::Setting(7, 1)), // VBAT_LOWV
+    row!(0x10, 3, 1, Access::Setting(10, 1)), // EN_TERM
+    row!(0x10, 4, 2, Access::Setting(8, 1)), // VRECHG
+    row!(0x10, 6, 1, Access::Setting(13, 1)), // DIS_STAT
+    row!(0x10, 7, 1, Access::Acts(0)), // REG_RST
+    row!(0x11, 0, 1, Access::Stored), // EN_TMR2X
+    row!(0x11, 1, 2, Access::Stored), // CHG_TMR
+    row!(0x11, 3, 1, Access::Stored), // EN_CHG_TMR
+    row!(0x11, 4, 2, Access::Stored), // WATCHDOG
+    row!(0x11, 6, 2, Access::Stored), // TOPOFF_TMR
+    row!(0x12, 0, 1, Access::Stored), // PRECHG_TMR
+    row!(0x12, 1, 1, Access::Stored), // STOP_WD_CHG
+    row!(0x12, 2, 1, Access::Acts(1)), // WD_RST
+    row!(0x12, 3, 1, Access::Stored), // EN_EXT_BYPASS
+    row!(0x12, 4, 1, Access::Stored), // EN_BYPASS
+    row!(0x12, 5, 1, Access::Stored), // RBAT_SNS
+    row!(0x12, 6, 2, Access::Stored), // IBAT_REV
+    row!(0x13, 0, 1, Access::Stored), // EN_BACKUP
+    row!(0x13, 1, 1, Access::Stored), // EN_REV
+    row!(0x13, 2, 1, Access::Stored), // RAC_SNS
+    row!(0x13, 3, 1, Access::Stored), // FORCE_VIN_DSCHG
+    row!(0x13, 4, 1, Access::Setting(11, 1)), // EN_HIZ
+    row!(0x13, 5, 1, Access::Setting(9, 1)), // EN_CHG
+    row!(0x13, 6, 1, Access::Stored), // FORCE_ISYS_DSCHG
+    row!(0x13, 7, 1, Access::Stored), // EN_AUTO_DSCHG
+    row!(0x14, 0, 1, Access::Stored), // EN_ICO
+    row!(0x14, 1, 1, Access::Stored), // FORCE_ICO
+    row!(0x14, 2, 1, Access::Stored), // FORCE_VINDPM
+    row!(0x14, 3, 1, Access::Stored), // EN_BAT_DETECT
+    row!(0x14, 4, 1, Access::Stored), // BATFET_CTRL
+    row!(0x14, 5, 1, Access::Setting(12, 1)), // EN_EXTILIM
+    row!(0x14, 6, 2, Access::Stored), // VIN_BACKUP
+    row!(0x15, 0, 2, Access::Stored), // VBAT_DETECT
+    row!(0x15, 2, 1, Access::Reserved), // -
+    row!(0x15, 3, 1, Access::Stored), // EN_FAST_VOTG_RESPONSE
+    row!(0x15, 4, 4, Access::Reserved), // -
+    row!(0x16, 0, 3, Access::Stored), // FSW
+    row!(0x16, 3, 2, Access::Stored), // EN_DITHER
+    row!(0x16, 5, 1, Access::Stored), // TREG
+    row!(0x16, 6, 1, Access::Stored), // EN_PFM_OOA
+    row!(0x16, 7, 1, Access::Stored), // EN_PFM
+    row!(0x17, 0, 1, Access::Stored), // EN_MPPT
+    row!(0x17, 1, 2, Access::Stored), // VOC_RATE
+    row!(0x17, 3, 2, Access::Stored), // VOC_DLY
+    row!(0x17, 5, 3, Access::Stored), // VOC_PCT
+    row!(0x18, 0, 2, Access::Stored), // TS_TH1
+    row!(0x18, 2, 2, Access::Stored), // TS_TH2
+    row!(0x18, 4, 2, Access::Stored), // TS_TH3
+    row!(0x18, 6, 2, Access::Stored), // TS_TH5
+    row!(0x19, 0, 1, Access::Stored), // EN_TS
+    row!(0x19, 1, 1, Access::Stored), // EN_JEITA
+    row!(0x19, 2, 2, Access::Stored), // JEITA_ISETC
+    row!(0x19, 4, 1, Access::Stored), // JEITA_ISETH
+    row!(0x19, 5, 2, Access::Stored), // JEITA_VSET
+    row!(0x19, 7, 1, Access::Stored), // EN_BYPASS_LL_EXIT
+    row!(0x1A, 0, 4, Access::Stored), // CV_TMR
+    row!(0x1A, 4, 1, Access::Reserved), // -
+    row!(0x1A, 5, 1, Access::Stored), // TS_REV_COLD
+    row!(0x1A, 6, 2, Access::Stored), // TS_REV_HOT
+    row!(0x1B, 0, 3, Access::Counted), // CELL_PIN
+    row!(0x1B, 3, 3, Access::Pin(0)), // VCHG_PIN
+    row!(0x1B, 6, 1, Access::Stored), // CELL_PIN_OVERRIDE
+    row!(0x1B, 7, 1, Access::Stored), // VCHG_PIN_OVERRIDE
+    row!(0x1C, 0, 3, Access::Pin(1)), // ICHG_PIN
+    row!(0x1C, 3, 1, Access::Stored), // ICHG_PIN_OVERRIDE
+    row!(0x1C, 4, 4, Access::Reserved), // -
+    row!(0x1D, 0, 3, Access::Status(0)), // CHARGE_STAT
+    row!(0x1D, 3, 1, Access::Status(1)), // WD_STAT
+    row!(0x1D, 4, 1, Access::Status(2)), // TREG_STAT
+    row!(0x1D, 5, 1, Access::Status(3)), // VINDPM_STAT
+    row!(0x1D, 6, 1, Access::Status(4)), // IINDPM_STAT
+    row!(0x1D, 7, 1, Access::Status(5)), // PG_STAT
+    row!(0x1E, 0, 3, Access::Status(6)), // TS_STAT
+    row!(0x1E, 3, 2, Access::Fixed(0)), // REV_STAT
+    row!(0x1E, 5, 2, Access::Fixed(0)), // ICO_STAT
+    row!(0x1E, 7, 1, Access::Reserved), // -
+    row!(0x1F, 0, 1, Access::Fixed(0)), // REV_TERM_STAT
+    row!(0x1F, 1, 1, Access::Reserved), // -
+    row!(0x1F, 2, 1, Access::Status(7)), // TSHUT_STAT
+    row!(0x1F, 3, 1, Access::Fixed(0)), // CV_TMR_STAT
+    row!(0x1F, 4, 1, Access::Status(8)), // CHG_TMR_STAT
+    row!(0x1F, 5, 2, Access::Status(9)), // BAT_FAULT_STAT
+    row!(0x1F, 7, 1, Access::Status(10)), // VIN_OVP_STAT
+    row!(0x20, 0, 1, Access::Flag(6, 1)), // CHARGE_FLAG
+    row!(0x20, 1, 1, Access::Flag(7, 1)), // TS_FLAG
+    row!(0x20, 2, 1, Access::Fixed(0)), // ICO_FLAG
+    row!(0x20, 3, 1, Access::Flag(5, 1)), // WD_FLAG
+    row!(0x20, 4, 1, Access::Flag(4, 1)), // TREG_FLAG
+    row!(0x20, 5, 1, Access::Flag(3, 1)), // VINDPM_FLAG
+    row!(0x20, 6, 1, Access::Flag(2, 1)), // IINDPM_FLAG
+    row!(0x20, 7, 1, Access::Flag(0, 2)), // PG_FLAG
+    row!(0x21, 0, 1, Access::Fixed(0)), // REV_FLAG
+    row!(0x21, 1, 1, Access::Reserved), // -
+    row!(0x21, 2, 1, Access::Fixed(0)), // BYPASS_FLAG
+    row!(0x21, 3, 1, Access::Flag(9, 1)), // TSHUT_FLAG
+    row!(0x21, 4, 1, Access::Fixed(0)), // CV_TMR_FLAG
+    row!(0x21, 5, 1, Access::Flag(11, 1)), // CHG_TMR_FLAG
+    row!(0x21, 6, 1, Access::Flag(10, 1)), // BAT_FAULT_FLAG
+    row!(0x21, 7, 1, Access::Flag(8, 1)), // VIN_OVP_FLAG
+    row!(0x22, 0, 1, Access::Mask(6, 1)), // CHARGE_MASK
+    row!(0x22, 1, 1, Access::Mask(7, 1)), // TS_MASK
+    row!(0x22, 2, 1, Access::Stored), // ICO_MASK
+    row!(0x22, 3, 1, Access::Mask(5, 1)), // WD_MASK
+    row!(0x22, 4, 1, Access::Mask(4, 1)), // TREG_MASK
+    row!(0x22, 5, 1, Access::Mask(3, 1)), // VINDPM_MASK
+    row!(0x22, 6, 1, Access::Mask(2, 1)), // IINDPM_MASK
+    row!(0x22, 7, 1, Access::Mask(0, 2)), // PG_MASK
+    row!(0x23, 0, 1, Access::Stored), // REV_MASK
+    row!(0x23, 1, 1, Access::Reserved), // -
+    row!(0x23, 2, 1, Access::Stored), // BYPASS_MASK
+    row!(0x23, 3, 1, Access::Mask(9, 1)), // TSHUT_MASK
+    row!(0x23, 4, 1, Access::Stored), // CV_TMR_MASK
+    row!(0x23, 5, 1, Access::Mask(11, 1)), // CHG_TMR_MASK
+    row!(0x23, 6, 1, Access::Mask(10, 1)), // BAT_FAULT_MASK
+    row!(0x23, 7, 1, Access::Mask(8, 1)), // VIN_OVP_MASK
+    row!(0x24, 0, 4, Access::Reserved), // -
+    row!(0x24, 4, 8, Access::Fixed(165)), // ICO_IINDPM
+    row!(0x24, 12, 4, Access::Reserved), // -
+    row!(0x26, 0, 2, Access::Fixed(1)), // DEV_REV
+    row!(0x26, 2, 4, Access::Fixed(1)), // PN
+    row!(0x26, 6, 2, Access::Reserved), // -
+];
 
 // The row of a field, by its place in the table; the places go round.
 pub fn row_at(number: u32) -> Row
     ensures { result ≡ row_of (field_at number) }
 {
-    row_by(packed(number))
+    ROWS[(number % FIELDS) as usize]
 }
 
 // How many fields stand before the first one of an address.

@@ -1,16 +1,11 @@
 -- `taken`: a loop over the register's rows.
-use Prim.Native.Nat.{◌+◌, ◌-◌, ◌≤◌}
 use mathlib.Core.Path.{◌≡◌}
 use lib.ListN.{drop}
 use Rattle.state_table.specs.Rows.{fields, over}
-use Rattle.state_table.specs.Packed.{below}
 use Rattle.state_fields.proofs.Turns.{on, step}
 use Rattle.state_fields.proofs.taking.taken.Given as goal
 
+-- what the rows from here on make of the words is what all of them make of those at entry
 abbrev pub invariant-loop-i : goal.invariant-loop-i
 invariant-loop-i l =
-    (l.address ≤ 38) × (l.last ≡ below (l.address + 1) fields) × (below l.address fields ≤ l.i)
-    × (over (on l.address l.value) (step l.address l.value) (drop l.i fields) l.u ≡ over (on l.address l.value) (step l.address l.value) fields l.initial.u)
-
-abbrev pub decreases-loop-i : goal.decreases-loop-i
-decreases-loop-i l = l.last - l.i
+    over (on l.address l.value) (step l.address l.value) (drop l.i fields) l.u ≡ over (on l.address l.value) (step l.address l.value) fields l.initial.u

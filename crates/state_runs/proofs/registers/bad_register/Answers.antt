@@ -1,56 +1,44 @@
 -- `bad_register`: a loop over the register's rows.
-use Prim.Native.Nat.{ℕ, ◌+◌, ◌≤◌, ◌<◌}
+use Prim.Native.Nat.{ℕ, ◌≤◌, ◌<◌}
 use mathlib.Core.Path.{sym, ap, subst, ◌∙◌}
 use mathlib.Core.Bool.{Bool, false, ◌||◌}
-use native.Mathlib.Omega.{arith}
 use Rattle.state_table.specs.Rows.{fields, fields_of}
-use Rattle.state_table.specs.Packed.{below, second_of}
-use Rattle.state_table.specs.declared.Access.{Access}
-use Rattle.state_table.proofs.Parts.{low-most, width-most, access-is, row_fits}
+use Rattle.state_table.proofs.Parts.{fits_row}
 use Rattle.state_table.proofs.Turns.{skipped, finished, nothing, turn}
 use Rattle.state_runs.specs.Registers.{bad_register}
-use Rattle.state_runs.proofs.Turns.{on, off, step, code-turn}
 use Rattle.state_runs.proofs.registers.bad_register.Invariants.{worse}
+use Rattle.state_runs.proofs.Turns.{on, off, step, code-turn}
 use Rattle.state_runs.proofs.registers.bad_register.Goals as goal
 
 pub returns-then-address-gt38 : goal.returns-then-address-gt38
 unfolding bad_register fields_of
-returns-then-address-gt38 c = let a = c.args in sym (nothing (on a.address) (step a.address (worse a.p) a.value) a.address (off a.address) false c.if-address-gt38.true)
+returns-then-address-gt38 c =
+    let a = c.args in
+    sym (nothing (on a.address) (step a.address (worse a.p) a.value) a.address (off a.address) false c.if-address-gt38.true)
 
 pub loop-i-init : goal.loop-i-init
 loop-i-init c =
     let a = c.args in
-    rw c.rows_below-i.ensures (omega arith, c.rows_below-last.ensures, omega arith, sym (skipped (on a.address) (step a.address (worse a.p) a.value) a.address (off a.address) fields false))
-
-pub digit-code-requires : goal.digit-code-requires
-digit-code-requires c =
-    let i = c.loop-i.i in
-    let r = c.row_at-row in
-    (low-most r.result i r.ensures, width-most r.result i r.ensures)
+    rw c.rows_below-i.ensures (sym (skipped (on a.address) (step a.address (worse a.p) a.value) a.address (off a.address) fields false))
 
 pub bad_by-bad-requires : goal.bad_by-bad-requires
-bad_by-bad-requires c =
-    let i = c.loop-i.i in
-    let r = c.row_at-row in
-    (subst (λ (a : Access). second_of a ≤ 255) (sym (access-is r.result i r.ensures)) (row_fits r.result i r.ensures).second, c.digit-code.ensures.1)
+bad_by-bad-requires c = fits_row c.row_at-row.result c.loop-i.i c.row_at-row.ensures
 
 pub loop-i-preserved : goal.loop-i-preserved
 loop-i-preserved c =
     let a = c.args in
     let l = c.loop-i in
-    let r = c.row_at-row in
-    let less : l.i < below (a.address + 1) fields = subst (λ (n : ℕ). l.i < n) l.invariant.1 (omega arith) in (
-      l.invariant.0,
-      l.invariant.1,
-      omega arith,
-      turn a.address l.i l.invariant.2 less (on a.address) (step a.address (worse a.p) a.value) l.bad (l.bad || c.bad_by-bad.result)
-          (code-turn a.address (worse a.p) a.value l.i l.invariant.2 less r.result r.ensures l.bad (l.bad || c.bad_by-bad.result) c.digit-code.result c.digit-code.ensures.0 (ap (λ (t : Bool). l.bad || t) c.bad_by-bad.ensures))
-          ∙ l.invariant.3,
-    )
+    let row = c.row_at-row in
+    let first = subst (λ (n : ℕ). n ≤ l.i) c.rows_below-i.ensures l.auto.i in
+    let last = subst (λ (n : ℕ). l.i < n) c.rows_below-i-end.ensures c.loop-i-test.true in
+    turn a.address l.i first last (on a.address) (step a.address (worse a.p) a.value) l.bad (l.bad || c.bad_by-bad.result)
+    (code-turn a.address (worse a.p) a.value l.i first last row.result row.ensures l.bad (l.bad || c.bad_by-bad.result) (ap (λ (t : Bool). l.bad || t) c.bad_by-bad.ensures))
+    ∙ l.invariant
 
 pub returns : goal.returns
 unfolding bad_register fields_of
 returns c =
     let a = c.args in
     let l = c.loop-i in
-    sym (finished (on a.address) (step a.address (worse a.p) a.value) a.address (off a.address) l.i l.bad (subst (λ (n : ℕ). n ≤ l.i) l.invariant.1 (omega arith))) ∙ l.invariant.3
+    let past = subst (λ (n : ℕ). n ≤ l.i) c.rows_below-i-end.ensures c.loop-i-test.false in
+    sym (finished (on a.address) (step a.address (worse a.p) a.value) a.address (off a.address) l.i l.bad past) ∙ l.invariant

@@ -1,10 +1,9 @@
 -- `bad_register`: a loop over the register's rows.
-use Prim.Native.Nat.{ℕ, ◌+◌, ◌-◌, ◌≤◌}
+use Prim.Native.Nat.{ℕ}
 use mathlib.Core.Path.{◌≡◌}
 use mathlib.Core.Bool.{Bool, false, ◌||◌}
 use lib.ListN.{drop}
 use Rattle.state_table.specs.Rows.{fields, over}
-use Rattle.state_table.specs.Packed.{below}
 use Rattle.state_table.specs.declared.Access.{Access}
 use Rattle.state_parts.specs.declared.profile.Profile.{Profile}
 use Rattle.state_runs.specs.Registers.{bad_by}
@@ -15,10 +14,7 @@ use Rattle.state_runs.proofs.registers.bad_register.Given as goal
 abbrev pub worse : Profile → Access → ℕ → Bool → Bool
 worse p access code bad = bad || bad_by p access code
 
+-- what the rows from here on make of it is what all of them make of what there was at entry
 abbrev pub invariant-loop-i : goal.invariant-loop-i
 invariant-loop-i l =
-    (l.address ≤ 38) × (l.last ≡ below (l.address + 1) fields) × (below l.address fields ≤ l.i)
-    × (over (on l.address) (step l.address (worse l.p) l.value) (drop l.i fields) l.bad ≡ over (on l.address) (step l.address (worse l.p) l.value) fields false)
-
-abbrev pub decreases-loop-i : goal.decreases-loop-i
-decreases-loop-i l = l.last - l.i
+    over (on l.address) (step l.address (worse l.p) l.value) (drop l.i fields) l.bad ≡ over (on l.address) (step l.address (worse l.p) l.value) fields false

@@ -1,5 +1,5 @@
 -- `bad_run`: one register after the other.
-use Prim.Native.Nat.{ℕ, ◌+◌, ◌-◌, ◌≤◌}
+use Prim.Native.Nat.{ℕ, ◌+◌}
 use mathlib.Core.Path.{◌≡◌}
 use mathlib.Core.Bool.{Bool, false, ◌||◌}
 use Rattle.log_raw.specs.Raw.{byte_of}
@@ -15,7 +15,4 @@ abbrev pub worse : Profile → ℕ → RawBytes → Bool → ℕ → Bool
 worse p first raw bad i = bad || bad_register p (first + i) (value_in (byte_of (raw_of raw)) i)
 
 abbrev pub invariant-loop-i : goal.invariant-loop-i
-invariant-loop-i l = (l.i ≤ l.raw.length) × (l.first + l.raw.length ≤ 39) × (l.bad ≡ stepwise (worse l.p l.first l.raw) l.i false)
-
-abbrev pub decreases-loop-i : goal.decreases-loop-i
-decreases-loop-i l = l.raw.length - l.i
+invariant-loop-i l = l.bad ≡ stepwise (worse l.p l.first l.raw) l.i false

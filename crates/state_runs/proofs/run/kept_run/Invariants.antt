@@ -1,5 +1,5 @@
 -- `kept_run`: one register after the other.
-use Prim.Native.Nat.{ℕ, ◌+◌, ◌-◌, ◌≤◌}
+use Prim.Native.Nat.{ℕ, ◌+◌}
 use mathlib.Core.Path.{◌≡◌}
 use Rattle.log_raw.specs.Raw.{byte_of}
 use Rattle.log_raw.specs.Struct.{raw_of}
@@ -16,7 +16,4 @@ abbrev pub takes : Profile → Registers → ℕ → RawBytes → Kept → ℕ �
 takes p before first raw u i = register_taken p before (first + i) (value_in (byte_of (raw_of raw)) i) u
 
 abbrev pub invariant-loop-i : goal.invariant-loop-i
-invariant-loop-i l = (l.i ≤ l.raw.length) × (l.first + l.raw.length ≤ 39) × (l.u ≡ stepwise (takes l.p l.before l.first l.raw) l.i l.initial.u)
-
-abbrev pub decreases-loop-i : goal.decreases-loop-i
-decreases-loop-i l = l.raw.length - l.i
+invariant-loop-i l = l.u ≡ stepwise (takes l.p l.before l.first l.raw) l.i l.initial.u
