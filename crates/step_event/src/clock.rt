@@ -1,9 +1,10 @@
 // One observation before it settles: the time goes to the stage held, the watchdog counts it, and the new sample stands.
 ghost use Rattle.std.specs.Prelude.{◌≡◌, ◌≤◌, true};
 ghost use Rattle.base.specs.Stamps.{elapsed_of};
-ghost use Rattle.state_valid.specs.Holds.{profile_ok, stage_ok, cycle_ok, state_ok};
+ghost use Rattle.state_valid.specs.Holds.{profile_ok, stage_ok, cycle_ok};
 ghost use Rattle.step_event.specs.Clock.{units_of, added_of, times_of, counted_of, cleared_if, observed_of};
 
+use crate::valid::Valid;
 use base::{choice, stamp};
 use settle_permission::bits;
 use state_fields::holding::without_overrides;
@@ -85,10 +86,11 @@ fn cleared(expires: bool, g: Registers) -> Registers
 }
 
 // The state as an observation finds it, before it settles.
-pub(crate) fn observed(s: State, x: Sample) -> State
-    requires { (state_ok s ≡ true) × (elapsed_of s.sample.stamp x.stamp ≤ 3600000) }
-    ensures { result ≡ observed_of s x }
+pub(crate) fn observed(valid: Valid, x: Sample) -> State
+    requires { elapsed_of valid.state.sample.stamp x.stamp ≤ 3600000 }
+    ensures { result ≡ observed_of valid.state x }
 {
+    let s = valid.state;
     let p = s.profile;
     let old = s.sample;
     let held = s.phase;

@@ -5,4 +5,5 @@ pub mod clock;
 pub mod paging;
 pub mod replaying;
 pub mod step;
+mod valid;
 pub mod walking;

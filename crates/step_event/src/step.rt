@@ -1,12 +1,12 @@
 // One event on the model.
-ghost use Rattle.std.specs.Prelude.{◌≡◌, true};
-ghost use Rattle.state_valid.specs.Holds.{state_ok};
+ghost use Rattle.std.specs.Prelude.{◌≡◌};
 ghost use Rattle.step_kinds.specs.Answers.{verdict_told};
 ghost use Rattle.step_kinds.specs.Changes.{change_told};
 ghost use Rattle.step_event.specs.Steps.{observe_of, followed_of, moved_of, first_of, change_of, model_ok, nothing_seen, seen_on, turned_by, step_of};
 ghost use Rattle.step_event.specs.PublicPromises.{StepPromise};
 
 use crate::clock;
+use crate::valid::Valid;
 use base::refusal::Refusal;
 use base::stamp;
 use log_event::Event;
@@ -26,28 +26,27 @@ use step_turns::turn;
 use step_turns::turn::Turn;
 
 #[tactic(auto, unfolding(crate::specs::Steps::observe_of))]
-fn observe(s: State, x: Sample) -> Result<(State, Way), Refusal>
-    requires { state_ok s ≡ true }
-    ensures { change_told result ≡ observe_of s x }
+fn observe(valid: Valid, x: Sample) -> Result<(State, Way), Refusal>
+    ensures { change_told result ≡ observe_of valid.state x }
 {
-    let ms = stamp::elapsed(s.sample.stamp, x.stamp);
+    let ms = stamp::elapsed(valid.state.sample.stamp, x.stamp);
     if 3600000 < ms {
         return Err(Refusal::StampAhead);
     }
-    Ok((clock::observed(s, x), Way::Observes))
+    Ok((clock::observed(valid, x), Way::Observes))
 }
 
-// What follows a power-on, on a model that holds what it may.
+// What follows a power-on.
 #[tactic(auto, unfolding(crate::specs::Steps::followed_of))]
-fn follow(s: State, e: Later) -> Result<(State, Way), Refusal>
-    requires { state_ok s ≡ true }
-    ensures { change_told result ≡ followed_of s e }
+fn follow(valid: Valid, e: Later) -> Result<(State, Way), Refusal>
+    ensures { change_told result ≡ followed_of valid.state e }
 {
+    let s = valid.state;
     match e {
         Later::Set(number, value) => plain::set(s, number, value),
         Later::Write(address, byte) => plain::write(s, address, byte),
         Later::TakeFlags => Ok((s, Way::Takes)),
-        Later::Observe(x) => observe(s, x),
+        Later::Observe(x) => observe(valid, x),
         Later::Service => Ok((plain::serviced(s), Way::Plain)),
         Later::Reset => Ok((resetting::reset(s), Way::Plain)),
         Later::WriteRun(address, raw) => plain::write_run(s, address, raw),
@@ -55,15 +54,14 @@ fn follow(s: State, e: Later) -> Result<(State, Way), Refusal>
     }
 }
 
-// An event on a model that is on and holds what it may.
+// An event on a model that is on.
 #[tactic(auto, unfolding(crate::specs::Steps::moved_of))]
-fn moved(s: State, t: Turn) -> Result<(State, Way), Refusal>
-    requires { state_ok s ≡ true }
-    ensures { change_told result ≡ moved_of s t }
+fn moved(valid: Valid, t: Turn) -> Result<(State, Way), Refusal>
+    ensures { change_told result ≡ moved_of valid.state t }
 {
     match t {
         Turn::Opens(p) => Ok(plain::opened(p)),
-        Turn::Follows(e) => follow(s, e),
+        Turn::Follows(e) => follow(valid, e),
         Turn::OpensOutside => Err(Refusal::OutOfRange),
         Turn::FollowsOutside => Err(Refusal::OutOfRange),
     }
@@ -103,7 +101,7 @@ fn change(ok: bool, m: Model, t: Turn) -> Result<(State, Way), Refusal>
         Model::Off => first(t),
         Model::On(s) => {
             if ok {
-                moved(s, t)
+                moved(Valid { state: s }, t)
             } else {
                 Err(Refusal::OutOfRange)
             }

@@ -5,10 +5,10 @@ use Rattle.step_event.specs.Clock.{observed_of}
 use Rattle.step_event.proofs.clock.observed.Goals as goal
 
 pub times-after-requires : goal.times-after-requires
-times-after-requires c = let h = apart c.args.s c.requires.0 in (h.profile, h.cycle, few-units _ _ c.requires.1 c.units-n.ensures c.elapsed-ms.ensures)
+times-after-requires c = let h = apart c.args.valid.state c.args.valid.passes in (h.profile, h.cycle, few-units _ _ c.requires c.units-n.ensures c.elapsed-ms.ensures)
 
 pub counted-dog-requires : goal.counted-dog-requires
-counted-dog-requires c = (apart c.args.s c.requires.0).profile
+counted-dog-requires c = (apart c.args.valid.state c.args.valid.passes).profile
 
 pub returns : goal.returns
 unfolding observed_of

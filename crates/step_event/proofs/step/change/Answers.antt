@@ -4,9 +4,9 @@ use Rattle.step_event.specs.Steps.{change_of, model_ok}
 use Rattle.step_event.proofs.Events.{known_on, unknown-on}
 use Rattle.step_event.proofs.step.change.Goals as goal
 
-pub moved-requires : goal.moved-requires
+pub invariant_of-moved : goal.invariant_of-moved
 unfolding model_ok
-moved-requires c = sym (sym c.if-ok.true ∙ c.requires ∙ ap model_ok c.in-On.is)
+invariant_of-moved c = record { passes = sym (sym c.if-ok.true ∙ c.requires ∙ ap model_ok c.in-On.is) }
 
 pub returns-in-Off : goal.returns-in-Off
 unfolding change_of
