@@ -4,22 +4,20 @@
 ghost use Rattle.std.specs.Prelude.{◌≡◌, true, length};
 ghost use Rattle.step_text.specs.Prints.{next_text, print_told, printed};
 
+use base::refusal::Refusal;
 use std::io;
 use step_event::walking;
 use step_event::walking::Walk;
-use step_text::answer::Print;
+use step_text::answer::Printed;
 
 // Prints the next page, for which there is always room.
-fn print_page(to: &impl io::Print, log: &[u8], from: Walk) -> Print
+fn print_page(to: &impl io::Print, log: &[u8], from: Walk) -> Result<Printed, Refusal>
     ensures { print_told result ≡ printed (length (next_text log.now from).text) (next_text log.now from).walk (next_text log.now from).over }
 {
     let mut out = [0u8; 2048];
-    let page = step_text::print(&mut out, log, from);
-    let Print::Page(n, _, _) = page else {
-        return page;
-    };
-    let _ = to.write_all(&out[..n]);
-    page
+    let page = step_text::print(&mut out, log, from)?;
+    let _ = to.write_all(&out[..page.bytes]);
+    Ok(page)
 }
 
 // Prints page after page, and tells whether the last was among them: 4,097 are the whole of any input (`RunPrints`, crate `step_text`).
@@ -27,15 +25,14 @@ fn run(to: &impl io::Print, log: &[u8]) -> bool
     ensures { result ≡ true }
 {
     let mut walk = walking::start();
-    for _pages in 0..4097 {
-        let page = print_page(to, log, walk);
-        let Print::Page(_, after, over) = page else {
+    for _pages in 0usize..4097 {
+        let Ok(page) = print_page(to, log, walk) else {
             return false;
         };
-        if over {
+        if page.over {
             return true;
         }
-        walk = after;
+        walk = page.walk;
     }
     false
 }

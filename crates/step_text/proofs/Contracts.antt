@@ -8,13 +8,17 @@ use Rattle.base.proofs.Answers.{refusal-one}
 use Rattle.base.proofs.Outcomes.{contract-settles-bytes}
 use Rattle.step_text.specs.PublicPromises.{OneOutcome}
 use Rattle.step_text.specs.Prints.{print_told}
-use Rattle.step_text.specs.declared.answer.Print.TheVariants.{Page, Refused}
+use Rattle.std.specs.Prelude.{Ok, Err}
 
 print-settled : Settled print_told
-print-settled (Page n v o) (Page m w p) e = cc
-print-settled (Page n v o) (Refused q) e = absurd (let z : ◌≡◌ {A = ℕ} 0 1 = cc in omega arith)
-print-settled (Refused r) (Page m w p) e = absurd (let z : ◌≡◌ {A = ℕ} 0 1 = cc in omega arith)
-print-settled (Refused r) (Refused q) e = let n : refusal_number r ≡ refusal_number q = cc in ap Refused (refusal-one r q n)
+print-settled (Ok p) (Ok q) e =
+    let bytes : p.bytes ≡ q.bytes = cc in
+    let walk : p.walk ≡ q.walk = cc in
+    let over : p.over ≡ q.over = cc in
+    λ i. Ok (record { bytes = bytes i; walk = walk i; over = over i })
+print-settled (Ok p) (Err q) e = absurd (let z : ◌≡◌ {A = ℕ} 0 1 = cc in omega arith)
+print-settled (Err r) (Ok q) e = absurd (let z : ◌≡◌ {A = ℕ} 0 1 = cc in omega arith)
+print-settled (Err r) (Err q) e = let n : refusal_number r ≡ refusal_number q = cc in ap Err (refusal-one r q n)
 
 pub one-outcome : OneOutcome
 one-outcome = record { print = λ log from part a b p q. contract-settles-bytes _ _ _ print-settled _ _ a b (p.0, p.1) (q.0, q.1) }

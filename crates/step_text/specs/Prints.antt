@@ -1,7 +1,8 @@
 -- What `runlog` prints, page by page: up to 16 lines, and the last line if the log ends behind them.
-use Rattle.std.specs.Prelude.{ℕ, ◌+◌, ◌*◌, Bool, true, false, List, [], ◌∷◌, ◌++◌}
+use Rattle.std.specs.Prelude.{ℕ, ◌+◌, ◌*◌, Bool, true, false, List, [], ◌∷◌, ◌++◌, Result, Ok, Err}
 use Rattle.base.specs.Pick.{pick}
 use Rattle.base.specs.Refusals.{refusal_number}
+use Rattle.base.specs.declared.refusal.Refusal.{Refusal}
 use Rattle.base.specs.Writing.{Wrote, written}
 use Rattle.base.specs.Writing as writing
 use Rattle.report_text.specs.Decimal.{most_digits}
@@ -10,8 +11,7 @@ use Rattle.report_pages.specs.Text.{lines_text, most_page}
 use Rattle.step_event.specs.Pages.{StopTold, full, end, unreadable, Passed, page_of}
 use Rattle.step_event.specs.declared.walking.Walk.{Walk}
 use Rattle.step_text.specs.Runs.{refused_text}
-use Rattle.step_text.specs.declared.answer.Print.{Print}
-use Rattle.step_text.specs.declared.answer.Print.TheVariants.{Page, Refused}
+use Rattle.step_text.specs.declared.answer.Printed.{Printed}
 
 -- "Last: `end`, records read, code (0 or 1-4), offset of the log's end or the unreadable record."
 abbrev pub last_text : ℕ → ℕ → StopTold → List ℕ
@@ -49,9 +49,9 @@ pub data PrintTold : Type 0 where
   printed : ℕ → Walk → Bool → PrintTold
   refused : ℕ → ℕ → PrintTold
 
-abbrev pub print_told : Print → PrintTold
-print_told (Page bytes walk over) = printed bytes walk over
-print_told (Refused r) = refused (refusal_number r) 0
+abbrev pub print_told : Result Printed Refusal → PrintTold
+print_told (Ok p) = printed p.bytes p.walk p.over
+print_told (Err r) = refused (refusal_number r) 0
 
 -- 12 if it is longer than the room for it
 abbrev pub told_by : Wrote → Walk → Bool → PrintTold

@@ -1,10 +1,10 @@
 // What printing a page comes to.
-use base::refusal::Refusal;
 use step_event::walking::Walk;
 
-// How many bytes were written, the walk behind the page, and whether nothing follows; or a refusal, and not a byte was changed.
+// How many bytes were written, the walk behind the page, and whether nothing follows.
 #[derive(Clone, Copy)]
-pub enum Print {
-    Page(usize, Walk, bool),
-    Refused(Refusal),
+pub struct Printed {
+    pub bytes: usize,
+    pub walk: Walk,
+    pub over: bool,
 }

@@ -11,7 +11,7 @@ ghost use Rattle.step_event.specs.Pages.{stop_told};
 ghost use Rattle.step_text.specs.Prints.{last_text, is_over, most_text, print_told, told_by};
 ghost use Rattle.step_text.specs.PublicPromises.{PrintPromise};
 
-use crate::answer::Print;
+use crate::answer::Printed;
 use base::refusal::Refusal;
 use report_pages::PageLines;
 use report_text::text;
@@ -21,20 +21,22 @@ use step_event::paging::Stop;
 use step_event::walking::Walk;
 
 // A page's first lines and the last line. The last line is written first, behind the page's place, so that a refusal changes no byte.
-fn ending(out: &mut [u8], lines: PageLines, count: usize, numbers: EndNumbers) -> Result<usize, Refusal>
+fn ending(
+    out: &mut [u8],
+    lines: PageLines,
+    count: usize,
+    numbers: EndNumbers,
+) -> Result<usize, Refusal>
     ensures { (written_told result ≡ written (page_text count lines ++ end_text numbers) out.old) × (out.new ≡ put (page_text count lines ++ end_text numbers) out.old) × (length (page_text count lines) ≤ most_page) }
 {
     let start = report_pages::page_width(lines, count);
     if out.len() < start {
         return Err(Refusal::NoRoom);
     }
-    match text::end(&mut out[start..], numbers) {
-        Ok(bytes) => {
-            report_pages::page(out, lines, count);
-            Ok(bytes + start)
-        }
-        Err(refusal) => Err(refusal),
-    }
+    let bytes = text::end(&mut out[start..], numbers)?;
+    // it has the room, as was measured above
+    let _ = report_pages::page(out, lines, count);
+    Ok(bytes + start)
 }
 
 // A page's first lines, and the last line if the log ends behind them.
@@ -63,23 +65,19 @@ fn is_over(stop: Stop) -> bool
 {
     match stop {
         Stop::Full => false,
-        Stop::End => true,
-        Stop::Unreadable(_, _) => true,
+        Stop::End | Stop::Unreadable(_, _) => true,
     }
 }
 
-fn told(put: Result<usize, Refusal>, walk: Walk, over: bool) -> Print
+fn told(put: Result<usize, Refusal>, walk: Walk, over: bool) -> Result<Printed, Refusal>
     ensures { print_told result ≡ told_by (written_told put) walk over }
 {
-    match put {
-        Ok(bytes) => Print::Page(bytes, walk, over),
-        Err(refusal) => Print::Refused(refusal),
-    }
+    put.map(|bytes| Printed { bytes, walk, over })
 }
 
 // The next page of what is printed of a log, from a walk on.
 #[tactic(auto, using(crate::proofs::Longs::long_text, crate::proofs::Longs::long_walk, crate::proofs::Longs::long_over, crate::proofs::Longs::long_short))]
-pub fn print(out: &mut [u8], log: &[u8], from: Walk) -> Print
+pub fn print(out: &mut [u8], log: &[u8], from: Walk) -> Result<Printed, Refusal>
     ensures { PrintPromise log.now from out.old result out.new }
 {
     if 65536 < log.len() {

@@ -17,14 +17,14 @@ loop-pages-preserved g c =
     let log = c.args.log.now in
     let l = c.loop-pages in
     let next = next_text log l.walk in
-    let same = sym (ap print_told c.in-Page.is) ∙ c.print_page-page.ensures in
-    let walk : c.in-Page.after ≡ next.walk = cc same in
-    let over : c.in-Page.over ≡ next.over = cc same in
-    let count : 4097 - l.pages ≡ suc (4097 - (l.pages + 1)) = omega (arith, c.loop-pages-test.true) in
-    (rw walk (goes_on (4097 - (l.pages + 1)) log l.walk (sym over ∙ c.if-over.false) (rw count at l.invariant.0)), omega (arith, c.loop-pages-test.true))
+    let same = sym (ap print_told c.in-Ok.is) ∙ c.print_page.ensures in
+    let walk : c.in-Ok.page.walk ≡ next.walk = cc same in
+    let over : c.in-Ok.page.over ≡ next.over = cc same in
+    let count : 4097 - l._pages ≡ suc (4097 - (l._pages + 1)) = omega (arith, c.loop-pages-test.true) in
+    (rw walk (goes_on (4097 - (l._pages + 1)) log l.walk (sym over ∙ c.if-page.false) (rw count at l.invariant.0)), omega (arith, c.loop-pages-test.true))
 
 pub returns : goal.returns
 returns g c =
     let l = c.loop-pages in
-    let none : 4097 - l.pages ≡ 0 = omega (arith, c.loop-pages-test.false) in
+    let none : 4097 - l._pages ≡ 0 = omega (arith, c.loop-pages-test.false) in
     absurd (not_none _ l.walk (rw none at l.invariant.0))

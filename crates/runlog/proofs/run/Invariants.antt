@@ -6,7 +6,4 @@ use Rattle.step_text.specs.Promises.{until_over}
 use Rattle.runlog.proofs.run.Given as goal
 
 abbrev pub invariant-loop-pages : goal.invariant-loop-pages
-invariant-loop-pages g l = ((until_over (4097 - l.pages) l.log l.walk).over ≡ true) × (l.pages ≤ 4097)
-
-abbrev pub decreases-loop-pages : goal.decreases-loop-pages
-decreases-loop-pages g l = 4097 - l.pages
+invariant-loop-pages g l = ((until_over (4097 - l._pages) l.log l.walk).over ≡ true) × (l._pages ≤ 4097)

@@ -16,6 +16,6 @@ returns-in-End c =
 pub returns-in-Unreadable : goal.returns-in-Unreadable
 returns-in-Unreadable c =
     let a = c.args in
-    let short = end_short a.number (refusal_number c.in-Unreadable.r) c.in-Unreadable.start (search rules) (omega (arith, c.number.ensures)) in
-    let e = rw (c.low-in-Unreadable.ensures, c.number.ensures) at c.ending-in-Unreadable.ensures in
+    let short = end_short a.number (refusal_number c.in-Unreadable.r) c.in-Unreadable.start (search rules) (omega (arith, c.from.ensures)) in
+    let e = rw (c.low-in-Unreadable.ensures, c.from.ensures) at c.ending-in-Unreadable.ensures in
     rw c.in-Unreadable.is (e.0, e.1, rw length-append (omega (arith, e.2, short)))
