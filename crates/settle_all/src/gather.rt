@@ -29,12 +29,15 @@ fn is_bad(profile: Profile, sample: Sample, latches: Latches, cycle: Cycle) -> b
 pub(crate) fn gather(state: State, latches: Latches, band: Band, observed: bool) -> Tests
     ensures { result ≡ tests_of state latches band observed }
 {
-    let profile = state.profile;
-    let settings = state.settings;
-    let registers = state.registers;
-    let sample = state.sample;
-    let cycle = state.cycle;
-    let phase = state.phase;
+    let State {
+        profile,
+        settings,
+        registers,
+        sample,
+        cycle,
+        phase,
+        ..
+    } = state;
     let permitted = permission::permitted(profile, settings, registers, sample, latches);
     let fault = is_bad(profile, sample, latches, cycle);
     let suspended = effect::suspends(profile, registers, band);
@@ -44,16 +47,16 @@ pub(crate) fn gather(state: State, latches: Latches, band: Band, observed: bool)
     let tapered = order::is_taper(phase);
     let ending = ending::may_end(settings, sample);
     Tests {
-        permitted: permitted,
-        fault: fault,
-        suspended: suspended,
+        permitted,
+        fault,
+        suspended,
         done: cycle.done,
-        recharge: recharge,
+        recharge,
         short: latches.short,
         low: latches.low,
-        taper: taper,
-        observed: observed,
-        tapered: tapered,
-        ending: ending,
+        taper,
+        observed,
+        tapered,
+        ending,
     }
 }

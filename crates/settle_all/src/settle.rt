@@ -16,9 +16,10 @@ use state_parts::state::State;
 fn stored(fault: bool, settings: Settings) -> Settings
     ensures { result ≡ stored_of fault settings }
 {
-    let mut after = settings;
-    after.enchg = settings.enchg & !fault;
-    after
+    Settings {
+        enchg: settings.enchg & !fault,
+        ..settings
+    }
 }
 
 // The state with that EN_CHG.
@@ -26,14 +27,9 @@ fn stored(fault: bool, settings: Settings) -> Settings
 fn forced(state: State) -> State
     ensures { result ≡ forced_of state }
 {
-    let profile = state.profile;
-    let registers = state.registers;
-    let settings = state.settings;
-    let fault = clamps::pin_fault(profile, registers);
-    let after = stored(fault, settings);
-    let mut new = state;
-    new.settings = after;
-    new
+    let fault = clamps::pin_fault(state.profile, state.registers);
+    let settings = stored(fault, state.settings);
+    State { settings, ..state }
 }
 
 // The state by what was found.
@@ -41,26 +37,14 @@ fn forced(state: State) -> State
 fn settled(state: State, latches: Latches, bands: Bands, t: Tests) -> State
     ensures { result ≡ settled_of state latches bands t }
 {
-    let profile = state.profile;
-    let settings = state.settings;
-    let registers = state.registers;
-    let watchdog = state.watchdog;
-    let sample = state.sample;
-    let flags = state.flags;
-    let was = state.cycle;
-    let cycle = cycles::after(t, was);
+    let cycle = cycles::after(t, state.cycle);
     let phase = order::phase(t);
     State {
-        profile: profile,
-        settings: settings,
-        registers: registers,
-        latches: latches,
-        cycle: cycle,
-        watchdog: watchdog,
-        sample: sample,
-        phase: phase,
-        bands: bands,
-        flags: flags,
+        latches,
+        cycle,
+        phase,
+        bands,
+        ..state
     }
 }
 
@@ -70,12 +54,15 @@ pub fn settle(state: State, observed: bool) -> State
     ensures { result ≡ settle_of state observed }
 {
     let start = forced(state);
-    let profile = start.profile;
-    let settings = start.settings;
-    let registers = start.registers;
-    let sample = start.sample;
-    let was = start.latches;
-    let held = start.bands;
+    let State {
+        profile,
+        settings,
+        registers,
+        sample,
+        latches: was,
+        bands: held,
+        ..
+    } = start;
     let latches = comparators::latches(profile, settings, registers, sample, was);
     let bands = holding::bands(profile, registers, sample, held);
     let band = joined::pack_band(bands);

@@ -18,9 +18,9 @@ pub fn after(t: Tests, was: Cycle) -> Cycle
     let precharge = choice::either(clears, 0, was.precharge);
     let fast = choice::either(clears, 0, was.fast);
     Cycle {
-        trickle: trickle,
-        precharge: precharge,
-        fast: fast,
+        trickle,
+        precharge,
+        fast,
         done: ends | (!clears & was.done),
     }
 }

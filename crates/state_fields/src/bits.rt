@@ -28,13 +28,7 @@ fn with_word(w: Words, number: u32, x: u64) -> Words
     let w2 = choice::either(number == 2, x, w.w2);
     let w3 = choice::either(number == 3, x, w.w3);
     let w4 = choice::either(number == 4, x, w.w4);
-    Words {
-        w0: w0,
-        w1: w1,
-        w2: w2,
-        w3: w3,
-        w4: w4,
-    }
+    Words { w0, w1, w2, w3, w4 }
 }
 
 // Two to the power of k; the powers go round.

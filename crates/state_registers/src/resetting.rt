@@ -16,9 +16,7 @@ fn restore(p: Profile, g: Registers) -> Registers
     ensures { result ≡ reset_registers p g }
 {
     let words = restored(p, g.words);
-    let mut n = g;
-    n.words = words;
-    n
+    Registers { words, ..g }
 }
 
 // The state with these registers after a register reset, before it settles.
@@ -30,12 +28,13 @@ pub fn reset_with(s: State, g: Registers) -> State
     let registers = restore(s.profile, g);
     let cycle = start_cycle();
     let watchdog = start_watchdog();
-    let mut n = s;
-    n.settings = settings;
-    n.registers = registers;
-    n.cycle = cycle;
-    n.watchdog = watchdog;
-    n
+    State {
+        settings,
+        registers,
+        cycle,
+        watchdog,
+        ..s
+    }
 }
 
 // The state after a register reset, before it settles.

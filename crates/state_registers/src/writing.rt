@@ -45,10 +45,7 @@ pub fn recount(count: bool, p: Profile, cells: u32, t: Settings) -> Settings
     let vreg = choice::either(count & !fault, full, t.vreg);
     let start = start_vsysmin(p, cells);
     let vsysmin = choice::either(count, start, t.vsysmin);
-    let mut n = t;
-    n.vreg = vreg;
-    n.vsysmin = vsysmin;
-    n
+    Settings { vreg, vsysmin, ..t }
 }
 
 // The state after a write that isn't refused.
@@ -61,14 +58,12 @@ fn written(s: State, address: u32, byte: u32) -> State
     let settings = recount(count, s.profile, byte / 1 % 8, s.settings);
     let words = taken(s.profile, held.words, address, byte);
     let cells = choice::either(count, byte / 1 % 8, held.cells);
-    let registers = Registers {
-        words: words,
-        cells: cells,
-    };
-    let mut n = s;
-    n.settings = settings;
-    n.registers = registers;
-    n
+    let registers = Registers { words, cells };
+    State {
+        settings,
+        registers,
+        ..s
+    }
 }
 
 // The host writes a byte at an address.

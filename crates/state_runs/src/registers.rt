@@ -122,8 +122,8 @@ pub fn register_taken(p: Profile, before: Registers, address: u32, value: u32, k
     let words = taken(p, k.words, address, value);
     let cells = choice::either(count, value / 1 % 8, k.cells);
     Kept {
-        settings: settings,
-        words: words,
-        cells: cells,
+        settings,
+        words,
+        cells,
     }
 }

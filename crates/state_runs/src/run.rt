@@ -21,12 +21,7 @@ use state_table::rows_below;
 fn in_middle(p: Profile, address: u32) -> bool
     ensures { result ≡ in_middle p address }
 {
-    if 39 <= address {
-        return false;
-    }
-    let first = rows_below(address);
-    let last = rows_below(address + 1);
-    first == last
+    address < 39 && rows_below(address) == rows_below(address + 1)
 }
 
 // Whether a run from an address on writes the register at another.
@@ -41,11 +36,7 @@ fn writes(first: u32, count: u32, address: u32) -> bool
 fn value_at(raw: RawBytes, first: u32, address: u32) -> u32
     ensures { (result ≡ value_in (byte_of (raw_of raw)) (address - first)) × (result ≤ 65535) }
 {
-    if address < first {
-        value_in(raw, 0)
-    } else {
-        value_in(raw, address - first)
-    }
+    value_in(raw, address.saturating_sub(first))
 }
 
 // Whether FSW is written and has no frequency.
@@ -110,13 +101,11 @@ fn kept_run(p: Profile, before: Registers, first: u32, raw: RawBytes, k: Kept) -
 fn kept_of(s: State) -> Kept
     ensures { result ≡ kept_of s }
 {
-    let settings = s.settings;
-    let words = s.registers.words;
-    let cells = s.registers.cells;
+    let Registers { words, cells } = s.registers;
     Kept {
-        settings: settings,
-        words: words,
-        cells: cells,
+        settings: s.settings,
+        words,
+        cells,
     }
 }
 

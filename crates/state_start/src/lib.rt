@@ -63,12 +63,12 @@ pub fn start_settings(p: Profile, cells: u32) -> Settings
     let ichg = start_ichg(p);
     let vsysmin = start_vsysmin(p, cells);
     Settings {
-        vreg: vreg,
-        ichg: ichg,
+        vreg,
+        ichg,
         iprechg: 120,
         iterm: 60,
         iindpm: 3300,
-        vsysmin: vsysmin,
+        vsysmin,
         lowv: 3,
         vrechg: 3,
         enchg: true,
@@ -86,7 +86,7 @@ pub fn start_registers(p: Profile) -> Registers
 {
     let words = start_words(p);
     Registers {
-        words: words,
+        words,
         cells: p.cell,
     }
 }
@@ -162,14 +162,14 @@ pub fn start(p: Profile) -> State
     let bands = start_bands();
     State {
         profile: p,
-        settings: settings,
-        registers: registers,
-        latches: latches,
-        cycle: cycle,
-        watchdog: watchdog,
-        sample: sample,
+        settings,
+        registers,
+        latches,
+        cycle,
+        watchdog,
+        sample,
         phase: Phase::Idle,
-        bands: bands,
+        bands,
         flags: 0,
     }
 }
