@@ -1,4 +1,5 @@
 // What a band does: it suspends, leaves a share of the current, or cuts the voltage.
+// The profile is the first parameter of every table of the paper, also where no row goes by it yet (CONTRIBUTING.md, House rules).
 ghost use Rattle.std.specs.Prelude.{◌≡◌};
 ghost use Rattle.settle_bands.specs.Effect.{suspended_in, suspends_of, share_by_band, share_of, is_warm, cut_of};
 

@@ -1,4 +1,5 @@
 // The temperature band of a thermistor's value, by registers 0x18 and 0x19: the first edition's judgement.
+// The profile is the first parameter of every table of the paper, also where no row goes by it yet (CONTRIBUTING.md, House rules).
 ghost use Rattle.std.specs.Prelude.{◌≡◌};
 ghost use Rattle.settle_bands.specs.Thresholds.{th1_of, th2_of, th3_of, th5_of, first_band, marks_of, band_by};
 
@@ -19,6 +20,7 @@ pub struct Marks {
     pub th5: u32,
 }
 
+// Each threshold has a function, as it has a definition; what they share is `entry::of`.
 fn th1(profile: Profile, registers: Registers) -> u32
     ensures { result ≡ th1_of profile registers }
 {

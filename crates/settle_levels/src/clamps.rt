@@ -1,4 +1,5 @@
 // Pin faults, and what the pins leave of the voltage that is set.
+// What a rule goes by are its parameters, as in its definition: with the whole state in their place each law of the rule would speak of whole states.
 ghost use Rattle.std.specs.Prelude.{◌≡◌};
 ghost use Rattle.settle_levels.specs.Clamps.{fault_of, pack_clamp_of, base_of};
 

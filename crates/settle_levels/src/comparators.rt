@@ -1,4 +1,6 @@
 // The comparators, each with the point at which it turns on and the point up or down to which it then stays.
+// What a rule goes by are its parameters, as in its definition: with the whole state in their place each law of the rule would speak of whole states.
+// The profile is the first parameter of every table of the paper, also where no row goes by it yet (CONTRIBUTING.md, House rules).
 ghost use Rattle.std.specs.Prelude.{◌≡◌};
 ghost use Rattle.settle_levels.specs.Comparators.{held, good_of, input_ok_of, input_over_of, short_returns, short_ends, short_of, low_returns, low_ends, low_of, pack_over_of, latches_of};
 

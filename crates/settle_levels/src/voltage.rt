@@ -1,4 +1,6 @@
 // The charge voltage, and where VBAT stands to it and to the recharge point.
+// What a rule goes by are its parameters, as in its definition: with the whole state in their place each law of the rule would speak of whole states.
+// The profile is the first parameter of every table of the paper, also where no row goes by it yet (CONTRIBUTING.md, House rules).
 ghost use Rattle.std.specs.Prelude.{◌≡◌};
 ghost use Rattle.settle_levels.specs.Voltage.{charge_voltage_of, taper_of, below_recharge};
 

@@ -1,4 +1,5 @@
 // The bits of a sample.
+// A function for each: one for all would take the weight that the names stand for, and be no shorter.
 ghost use Rattle.std.specs.Prelude.{◌≡◌};
 ghost use Rattle.settle_permission.specs.Bits.{ce_high, hiz_high, iindpm_of, vindpm_of, thermal_of, shutdown_of, regulated_of};
 

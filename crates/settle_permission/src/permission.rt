@@ -1,4 +1,5 @@
 // Whether a charge is permitted.
+// What a rule goes by are its parameters, as in its definition: with the whole state in their place each law of the rule would speak of whole states.
 ghost use Rattle.std.specs.Prelude.{◌≡◌};
 ghost use Rattle.settle_permission.specs.Permission.{hiz_of, permitted_of};
 

@@ -1,4 +1,5 @@
 // What the words hold: what they may, what they start with, and what a register reset and the watchdog's expiry leave.
+// The profile is the first parameter of every table of the paper, also where no row goes by it yet (CONTRIBUTING.md, House rules).
 ghost use Rattle.std.specs.Prelude.{◌≡◌};
 ghost use Rattle.state_fields.specs.Held.{start_words, restored_by, words_ok, without_overrides};
 

@@ -1,15 +1,24 @@
 // The fields that rules read, each by its name.
+// A function for each: rules read a field by its name (CONTRIBUTING.md, House rules), and one for all would take the word, shift and width that the names stand for.
 ghost use Rattle.std.specs.Prelude.{◌≡◌};
 ghost use Rattle.state_fields.specs.Held.{field_of, is_set};
 ghost use Rattle.state_table.specs.Rows.{fsw, ts_th1, ts_th2, ts_th3, ts_th5, en_ts, en_jeita, jeita_isetc, jeita_iseth, jeita_vset};
-ghost use Rattle.state_table.specs.Rows.{vchg_override, cell_override, ichg_override};
+ghost use Rattle.state_table.specs.Rows.{vchg_override, cell_override, ichg_override, frequency_ok};
 
+use state_parts::profile::Profile;
 use state_parts::registers::Registers;
 
 pub fn fsw(registers: Registers) -> u32
     ensures { result ≡ field_of fsw registers }
 {
     (registers.words.w2 / 0x1000000000000 % 8) as u32
+}
+
+// Whether a code of FSW has a frequency.
+pub fn has_frequency(profile: Profile, code: u32) -> bool
+    ensures { result ≡ frequency_ok profile code }
+{
+    (1 <= code) & (code <= 6)
 }
 
 pub fn ts_th1(registers: Registers) -> u32

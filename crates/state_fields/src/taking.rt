@@ -1,4 +1,5 @@
 // The stored fields of a register that is written.
+// The profile is the first parameter of every table of the paper, also where no row goes by it yet (CONTRIBUTING.md, House rules).
 ghost use Rattle.std.specs.Prelude.{◌≡◌, ◌+◌, ◌*◌};
 ghost use Rattle.base.specs.Pick.{pick};
 ghost use Rattle.state_table.specs.Rows.{is_stored};

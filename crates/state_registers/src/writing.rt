@@ -78,8 +78,7 @@ pub fn write(s: State, address: u32, byte: u32) -> Result<State, Refusal>
         return Err(Refusal::OutOfRange);
     }
     let code = byte / 1 % 8;
-    let legal = (1 <= code) & (code <= 6);
-    if (address == 0x16) & !legal {
+    if (address == 0x16) & !named::has_frequency(s.profile, code) {
         return Err(Refusal::BadFrequency);
     }
     Ok(written(s, address, byte))

@@ -1,4 +1,5 @@
 // What one register of a run takes.
+// The profile is the first parameter of every table of the paper, also where no row goes by it yet (CONTRIBUTING.md, House rules).
 ghost use Rattle.std.specs.Prelude.{◌≡◌, ◌+◌, ◌-◌, ◌/◌, ◌%◌, ◌^◌, ◌≤◌, eqb};
 ghost use Rattle.base.specs.Pick.{pick};
 ghost use Rattle.state_table.specs.Packed.{FitsRow};

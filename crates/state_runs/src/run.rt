@@ -1,4 +1,5 @@
 // A run of written bytes on a state.
+// The profile is the first parameter of every table of the paper, also where no row goes by it yet (CONTRIBUTING.md, House rules).
 ghost use Rattle.std.specs.Prelude.{◌≡◌, ◌&&◌, leb, ltb, ◌+◌, ◌-◌, ◌≤◌};
 ghost use Rattle.log_raw.specs.Raw.{byte_of};
 ghost use Rattle.log_raw.specs.Struct.{raw_of};
@@ -11,6 +12,7 @@ use crate::registers::{Kept, bad_register, register_taken};
 use base::refusal::Refusal;
 use log_raw::RawBytes;
 use log_raw::bytes::has_spelling;
+use state_fields::named;
 use state_parts::profile::Profile;
 use state_parts::registers::Registers;
 use state_parts::state::State;
@@ -45,8 +47,7 @@ fn bad_frequency(p: Profile, first: u32, raw: RawBytes) -> bool
 {
     let there = writes(first, raw.length, 0x16);
     let code = value_at(raw, first, 0x16) / 1 % 8;
-    let legal = (1 <= code) & (code <= 6);
-    there & !legal
+    there & !named::has_frequency(p, code)
 }
 
 // Whether REG_RST is written 1.

@@ -1,4 +1,5 @@
 // What a power-on begins with, and a register reset returns to.
+// The profile is the first parameter of every table of the paper, also where no row goes by it yet (CONTRIBUTING.md, House rules).
 #![tactic(auto)]
 
 ghost use Rattle.std.specs.Prelude.{◌≡◌};

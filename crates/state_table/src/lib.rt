@@ -211,7 +211,8 @@ pub fn row_at(number: u32) -> Row
     ROWS[(number % FIELDS) as usize]
 }
 
-// How many fields stand before the first one of an address.
+// How many fields stand before the first one of an address. Callers go over an address's rows by a `for` of their own: a fold that takes the step as a closure promises only what its
+// calls may return, so it has no `OneOutcome`.
 #[tactic(auto, unfolding(crate::specs::Rows::fields))]
 pub fn rows_below(address: u32) -> u32
     ensures { result ≡ below address fields }

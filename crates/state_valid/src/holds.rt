@@ -56,7 +56,7 @@ pub fn registers_ok(p: Profile, g: Registers) -> bool
     let count = g.cells <= 7;
     let code = named::fsw(g);
     let stored = words_ok(p, g.words);
-    stored & ((1 <= code) & (code <= 6)) & count
+    stored & named::has_frequency(p, code) & count
 }
 
 // A stage's time by its limit, and by whether the stage is held.
