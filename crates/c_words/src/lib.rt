@@ -17,6 +17,7 @@ fn byte(bytes: &[u8], at: usize) -> u8
 }
 
 // The word at a place that has all four bytes: they are read with no test.
+#[tactic(auto, unfolding(crate::specs::Words::word_at))]
 fn whole(bytes: &[u8], at: usize) -> u32
     requires { at + 4 ≤ length bytes.now }
     ensures { result ≡ word_at bytes.now at }
@@ -25,6 +26,7 @@ fn whole(bytes: &[u8], at: usize) -> u32
 }
 
 // The word at a place.
+#[tactic(auto, unfolding(crate::specs::Words::word_at))]
 fn word(bytes: &[u8], at: usize) -> u32
     requires { at + 4 < 2 ^ 64 }
     ensures { result ≡ word_at bytes.now at }

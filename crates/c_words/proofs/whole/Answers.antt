@@ -1,8 +1,0 @@
--- `whole` meets its contract: its four bytes.
-use Rattle.std.proofs.Common.{arith}
-use Rattle.c_words.specs.Words.{word_at}
-use Rattle.c_words.proofs.whole.Goals as goal
-
-pub returns : goal.returns
-unfolding word_at
-returns c = omega (arith, c.from_le_bytes.ensures)
