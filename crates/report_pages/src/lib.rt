@@ -13,7 +13,7 @@ use report_text::text::LineNumbers;
 // How many lines a page has room for.
 pub const PAGE: usize = 16;
 
-// A page's lines.
+// A page's lines, with the count of those that are meant beside them: of a slice of any length a text would have no most bytes.
 pub type PageLines = [Line; PAGE];
 
 // The nine numbers of a line, in their order.

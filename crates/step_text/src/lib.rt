@@ -17,7 +17,7 @@ use report_pages::PageLines;
 use report_text::text;
 use report_text::text::EndNumbers;
 use step_event::paging;
-use step_event::paging::Stop;
+use step_event::paging::{Page, Stop};
 use step_event::walking::Walk;
 
 // A page's first lines and the last line. The last line is written first, behind the page's place, so that a refusal changes no byte.
@@ -39,18 +39,15 @@ fn ending(
     Ok(bytes + start)
 }
 
-// A page's first lines, and the last line if the log ends behind them.
-fn page(
-    out: &mut [u8],
-    lines: PageLines,
-    count: usize,
-    number: u32,
-    place: usize,
-    stop: Stop,
-) -> Result<usize, Refusal>
-    ensures { (written_told result ≡ written (page_text count lines ++ last_text number place (stop_told stop)) out.old) × (out.new ≡ put (page_text count lines ++ last_text number place (stop_told stop)) out.old) × (length (page_text count lines ++ last_text number place (stop_told stop)) ≤ most_text) }
+// A page's lines, and the last line if the log ends behind them.
+fn page(out: &mut [u8], p: Page) -> Result<usize, Refusal>
+    ensures { (written_told result ≡ written (page_text p.count p.lines ++ last_text p.walk.number p.walk.place (stop_told p.stop)) out.old) × (out.new ≡ put (page_text p.count p.lines ++ last_text p.walk.number p.walk.place (stop_told p.stop)) out.old) × (length (page_text p.count p.lines ++ last_text p.walk.number p.walk.place (stop_told p.stop)) ≤ most_text) }
 {
-    match stop {
+    let number = p.walk.number;
+    let place = p.walk.place;
+    let count = p.count;
+    let lines = p.lines;
+    match p.stop {
         Stop::Full => report_pages::page(out, lines, count),
         Stop::End => ending(out, lines, count, [number, 0, text::low(place)]),
         Stop::Unreadable(r, start) => {
@@ -84,9 +81,6 @@ pub fn print(out: &mut [u8], log: &[u8], from: Walk) -> Result<Printed, Refusal>
         return told(text::end(out, [0, 13, 0]), from, true);
     }
     let p = paging::turn(log, from);
-    let lines = p.lines;
-    let walk = p.walk;
-    let stop = p.stop;
-    let put = page(out, lines, p.count, walk.number, walk.place, stop);
-    told(put, walk, is_over(stop))
+    let put = page(out, p);
+    told(put, p.walk, is_over(p.stop))
 }
