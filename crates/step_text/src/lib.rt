@@ -27,7 +27,7 @@ fn ending(
     count: usize,
     numbers: EndNumbers,
 ) -> Result<usize, Refusal>
-    ensures { (written_told result ≡ written (page_text count lines ++ end_text numbers) out.old) × (out.new ≡ put (page_text count lines ++ end_text numbers) out.old) × (length (page_text count lines) ≤ most_page) }
+    ensures { let text = page_text count lines ++ end_text numbers in (written_told result ≡ written text out.old) × (out.new ≡ put text out.old) × (length (page_text count lines) ≤ most_page) }
 {
     let start = report_pages::page_width(lines, count);
     if out.len() < start {
@@ -41,7 +41,7 @@ fn ending(
 
 // A page's lines, and the last line if the log ends behind them.
 fn page(out: &mut [u8], p: Page) -> Result<usize, Refusal>
-    ensures { (written_told result ≡ written (page_text p.count p.lines ++ last_text p.walk.number p.walk.place (stop_told p.stop)) out.old) × (out.new ≡ put (page_text p.count p.lines ++ last_text p.walk.number p.walk.place (stop_told p.stop)) out.old) × (length (page_text p.count p.lines ++ last_text p.walk.number p.walk.place (stop_told p.stop)) ≤ most_text) }
+    ensures { let text = page_text p.count p.lines ++ last_text p.walk.number p.walk.place (stop_told p.stop) in (written_told result ≡ written text out.old) × (out.new ≡ put text out.old) × (length text ≤ most_text) }
 {
     let number = p.walk.number;
     let place = p.walk.place;
