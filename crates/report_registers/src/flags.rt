@@ -1,12 +1,12 @@
 // A flag register: its byte, by the flags that are held.
 ghost use Rattle.std.specs.Prelude.{◌≡◌, true};
-ghost use Rattle.state_table.specs.Packed.{fits_access};
+ghost use Rattle.state_table.specs.Packed.{FitsRow};
 ghost use Rattle.report_registers.specs.Reads.{flag_register, flag_by, flag_byte};
 
 use crate::codes::any_of;
 use crate::placed;
 use state_parts::profile::Profile;
-use state_table::{Access, row_at, rows_below};
+use state_table::{Access, Row, row_at, rows_below};
 
 // Whether an address is a flag register's.
 pub fn flag_register(p: Profile, address: u32) -> bool
@@ -16,11 +16,11 @@ pub fn flag_register(p: Profile, address: u32) -> bool
 }
 
 // The code of a field of flags; 0 for any other.
-fn flag_by(access: Access, flags: u32) -> u32
-    requires { fits_access access ≡ true }
-    ensures { result ≡ flag_by access flags }
+fn flag_by(row: Row, flags: u32) -> u32
+    requires { FitsRow row }
+    ensures { result ≡ flag_by row.access flags }
 {
-    match access {
+    match row.access {
         Access::Flag(first, count) => any_of(flags, first, count),
         _ => 0,
     }
@@ -33,13 +33,11 @@ pub fn flag_byte(p: Profile, address: u32, flags: u32) -> u8
     if 38 < address {
         return 0;
     }
-    let last = rows_below(address + 1);
     let mut sum: u64 = 0;
-    for i in rows_below(address)..last {
+    for i in rows_below(address)..rows_below(address + 1) {
         let row = row_at(i);
-        let access = row.access;
-        let here = flag_by(access, flags);
-        let part = placed(here, row.low, row.width);
+        let here = flag_by(row, flags);
+        let part = placed(here, row);
         sum += part as u64;
     }
     (sum % 256) as u8

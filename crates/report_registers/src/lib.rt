@@ -2,6 +2,7 @@
 #![tactic(auto)]
 
 ghost use Rattle.std.specs.Prelude.{◌≡◌, ◌*◌, ◌%◌, ◌^◌, ◌≤◌};
+ghost use Rattle.state_table.specs.Packed.{FitsRow};
 ghost use Rattle.report_registers.specs.Reads.{code_of, value_by};
 ghost use Rattle.report_registers.specs.PublicPromises.{ReadPromise, ReadRegisterPromise};
 
@@ -9,19 +10,19 @@ use crate::codes::code;
 use base::refusal::Refusal;
 use state_fields::bits::power;
 use state_parts::state::{Model, State};
-use state_table::{row_at, rows_below};
+use state_table::{Row, row_at, rows_below};
 use step_flags::between;
 
 pub mod codes;
 pub mod flags;
 
 // A code at its field's place.
-pub(crate) fn placed(code: u32, low: u32, width: u32) -> u32
-    requires { (low ≤ 15) × (width ≤ 16) }
-    ensures { (result ≡ code % 2 ^ width * 2 ^ low) × (result ≤ 0x7FFF8000) }
+pub(crate) fn placed(code: u32, row: Row) -> u32
+    requires { FitsRow row }
+    ensures { (result ≡ code % 2 ^ row.width * 2 ^ row.low) × (result ≤ 0x7FFF8000) }
 {
-    let unit = power(low);
-    let most = power(width);
+    let unit = power(row.low);
+    let most = power(row.width);
     ((code as u64) % most * unit) as u32
 }
 
@@ -31,12 +32,11 @@ fn value(s: State, address: u32) -> u64
     ensures { result ≡ value_by s.profile (code_of s) address }
 {
     let x = between::seen_in(s);
-    let last = rows_below(address + 1);
     let mut sum: u64 = 0;
-    for i in rows_below(address)..last {
+    for i in rows_below(address)..rows_below(address + 1) {
         let row = row_at(i);
         let here = code(s, x, i);
-        let part = placed(here, row.low, row.width);
+        let part = placed(here, row);
         sum += part as u64;
     }
     sum

@@ -11,8 +11,5 @@ pub fn field_at(w: Words, number: u32) -> u32
     ensures { result ≡ field_in (field_at number) w }
 {
     let row = row_at(number);
-    let address = row.address;
-    let low = row.low;
-    let code = get(w, address * 8 + low, row.width);
-    code as u32
+    get(w, row.address * 8 + row.low, row.width) as u32
 }

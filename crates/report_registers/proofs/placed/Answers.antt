@@ -15,4 +15,4 @@ most low width l w code el ew hl hw =
     rw (a, b) (refl, placed-most code low width hl hw)
 
 pub returns : goal.returns
-returns c = let a = c.args in most a.low a.width _ _ a.code c.power-unit.ensures c.power-most.ensures (omega arith) (omega arith)
+returns c = let a = c.args in most a.row.low a.row.width _ _ a.code c.power-unit.ensures c.power-most.ensures (omega arith) (omega arith)

@@ -1,9 +1,8 @@
 -- `flag_byte`: a loop over the register's rows.
-use Prim.Native.Nat.{ℕ, ◌+◌, ◌*◌, ◌≤◌}
+use Prim.Native.Nat.{ℕ, ◌*◌, ◌≤◌}
 use mathlib.Core.Path.{◌≡◌}
 use lib.ListN.{drop}
 use Rattle.state_table.specs.Rows.{Field, fields, over}
-use Rattle.state_table.specs.Packed.{below}
 use Rattle.report_registers.specs.Reads.{flag_by}
 use Rattle.report_registers.proofs.Sums.{on, step}
 use Rattle.report_registers.proofs.flags.flag_byte.Given as goal
@@ -14,5 +13,5 @@ code flags f = flag_by f.access flags
 
 abbrev pub invariant-loop-i : goal.invariant-loop-i
 invariant-loop-i l =
-    (l.address ≤ 38) × (l.last ≡ below (l.address + 1) fields) × (below l.address fields ≤ l.i) × (l.sum ≤ l.i * 0x7FFF8000)
+    (l.sum ≤ l.i * 0x7FFF8000)
     × (over (on l.address (code l.flags)) (step l.address (code l.flags)) (drop l.i fields) l.sum ≡ over (on l.address (code l.flags)) (step l.address (code l.flags)) fields 0)
