@@ -62,8 +62,7 @@ fn moved(valid: Valid, t: Turn) -> Result<(State, Way), Refusal>
     match t {
         Turn::Opens(p) => Ok(plain::opened(p)),
         Turn::Follows(e) => follow(valid, e),
-        Turn::OpensOutside => Err(Refusal::OutOfRange),
-        Turn::FollowsOutside => Err(Refusal::OutOfRange),
+        Turn::OpensOutside | Turn::FollowsOutside => Err(Refusal::OutOfRange),
     }
 }
 
@@ -74,9 +73,8 @@ fn first(t: Turn) -> Result<(State, Way), Refusal>
 {
     match t {
         Turn::Opens(p) => Ok(plain::opened(p)),
-        Turn::Follows(_) => Err(Refusal::NotPowered),
         Turn::OpensOutside => Err(Refusal::OutOfRange),
-        Turn::FollowsOutside => Err(Refusal::NotPowered),
+        Turn::Follows(_) | Turn::FollowsOutside => Err(Refusal::NotPowered),
     }
 }
 

@@ -19,13 +19,7 @@ use step_flags::between::Seen;
 fn observing(way: Way) -> bool
     ensures { result ≡ observing way }
 {
-    match way {
-        Way::Plain => false,
-        Way::Observes => true,
-        Way::Takes => false,
-        Way::Reads(_) => false,
-        Way::Powers => false,
-    }
+    matches!(way, Way::Observes)
 }
 
 // The flags that a read of a flag register leaves: it clears bits 0 to 7 at 0x20, and 8 to 11 at 0x21.
@@ -40,8 +34,7 @@ fn kept_by(way: Way, all: u32) -> u32
     ensures { result ≡ kept_by way all }
 {
     match way {
-        Way::Plain => all,
-        Way::Observes => all,
+        Way::Plain | Way::Observes => all,
         Way::Takes => 0,
         Way::Reads(address) => flags_left(address, all),
         Way::Powers => 32,
@@ -53,11 +46,9 @@ fn handed_by(p: Profile, way: Way, all: u32) -> u32
     ensures { result ≡ handed_by p way all }
 {
     match way {
-        Way::Plain => 0,
-        Way::Observes => 0,
         Way::Takes => all,
         Way::Reads(address) => flag_byte(p, address, all) as u32,
-        Way::Powers => 0,
+        Way::Plain | Way::Observes | Way::Powers => 0,
     }
 }
 
@@ -66,11 +57,8 @@ fn pulses_by(way: Way, edge: bool) -> bool
     ensures { result ≡ pulses_by way edge }
 {
     match way {
-        Way::Plain => edge,
-        Way::Observes => edge,
-        Way::Takes => edge,
-        Way::Reads(_) => edge,
         Way::Powers => true,
+        Way::Plain | Way::Observes | Way::Takes | Way::Reads(_) => edge,
     }
 }
 
