@@ -1,4 +1,4 @@
-// What the calls answer: a number, 0 or the refusal's, its place, and what the call is about.
+// What the calls answer, plain numbers as the C interface has them: 0 or the refusal's number, its place, and what the call is about.
 ghost use Rattle.std.specs.Prelude.{◌≡◌};
 ghost use Rattle.c_calls.specs.Landing.{answered, number_in, number_told, value_told};
 

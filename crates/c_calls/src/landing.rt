@@ -44,7 +44,7 @@ fn shown_numbers(m: Model, pulse: bool, handed: u32) -> Shown
     }
 }
 
-// Leaves what an event came to, the only one of a walk, in the image and the answer buffer: its number.
+// Leaves what an event came to, the only one of a walk, in the image and the answer buffer: its number, 0 or its refusal's, as the walk has it.
 #[tactic(auto, unfolding(crate::specs::Landing::land_of, c_image::specs::Images::saved_in))]
 pub(crate) fn land(image: &mut [u8], shown: &mut [u8], walk: Walk) -> u32
     requires { length image.old ≡ image_length }
@@ -56,7 +56,7 @@ pub(crate) fn land(image: &mut [u8], shown: &mut [u8], walk: Walk) -> u32
         return came.number;
     }
     let numbers = shown_numbers(after, came.pulse, came.handed);
-    // It has room for seven words where an event is played, and is left as it is elsewhere.
+    // It has room, as `ready` saw.
     let _ = c_words::write(shown, &numbers);
     c_image::save(image, after);
     0

@@ -5,7 +5,6 @@ ghost use Rattle.c_calls.specs.Showing.{report_numbers, report_call_of, byte_in,
 ghost use Rattle.c_calls.specs.PublicPromises.{ReportPromise, RegisterPromise};
 
 use crate::answer::{Answer, Byte, answered, told};
-use crate::landing::ready;
 use base::refusal::Refusal;
 use report_state::{report, stat};
 use state_parts::state::{Model, State};
@@ -27,12 +26,18 @@ fn report_numbers(s: State) -> Report
     [phase, current, voltage, limit, flags, stat]
 }
 
-// The report, the flags and STAT of the model as it stands: 0, or its refusal.
-#[tactic(auto, unfolding(crate::specs::Showing::report_call_of))]
+// The report, the flags and STAT of the model as it stands: 0, or its refusal. Not by `ready` and `?`: handed on by them, the model lies on the stack once more (small stack).
+#[tactic(auto, unfolding(crate::specs::Showing::report_call_of, crate::specs::Landing::ready_of))]
 fn reported(image: &[u8], report: &mut [u8]) -> Result<u32, Refusal>
     ensures { left (answered (number_in result)) report.new ≡ report_call_of image.now report.old }
 {
-    let Model::On(s) = ready(image, report.len(), 24)? else {
+    let Some(model) = c_image::load(image) else {
+        return Err(Refusal::OutOfRange);
+    };
+    if report.len() < 24 {
+        return Err(Refusal::NoRoom);
+    }
+    let Model::On(s) = model else {
         return Err(Refusal::NotPowered);
     };
     // It has room, so it isn't refused.

@@ -81,5 +81,10 @@ pub fn load(image: &[u8]) -> Option<Model>
         return None;
     }
     let model = model_from(image);
-    is_image(image, model).then_some(model)
+    // Not `then_some`, which would have the model on the stack once more (small stack).
+    if is_image(image, model) {
+        Some(model)
+    } else {
+        None
+    }
 }
