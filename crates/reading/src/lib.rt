@@ -36,7 +36,7 @@ pub fn open<R: Files>(rt: &R, name: &[u8]) -> io::Result<R::File>
     }
 }
 
-// Reads until the buffer is full, the input ends or a read fails: how many bytes it put at the buffer's start, and the read's error. A read that fails has put bytes too, so the count stands beside the error.
+// Reads until the buffer is full, the input ends or a read fails: how many bytes it put at the buffer's start, and the read's error. A read that fails has put bytes too, so the count stands beside the error. The loop goes on by what each read put, so it is no `for`.
 pub fn read_full<R: Read>(from: &mut R, buffer: &mut [u8]) -> (usize, io::Result<()>)
     ensures room { result.0 ≤ length buffer.new }
     ensures bytes { Consumes (R.remaining from.old) (R.remaining from.new) (take result.0 buffer.new) }

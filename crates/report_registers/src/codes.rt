@@ -46,7 +46,7 @@ fn status(x: Seen, number: u32) -> u32
     }
 }
 
-// 1 if one of some bits is.
+// 1 if one of some bits is. The bits are those of a row, which `FitsRow` holds to 31; here they are two numbers.
 pub(crate) fn any_of(n: u32, first: u32, count: u32) -> u32
     requires { first + count ≤ 31 }
     ensures { result ≡ any_of first count n }

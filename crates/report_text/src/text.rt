@@ -13,7 +13,7 @@ pub type LineNumbers = [u32; 9];
 // What the last line holds: records read, code, offset.
 pub type EndNumbers = [u32; 3];
 
-// A line of no more numbers than a record's has.
+// A line of no more numbers than a record's has. Said of a slice, here, of its width and behind a word: an array of any length would need the same clause on its length.
 fn whole(out: &mut [u8], numbers: &[u32]) -> Result<usize, Refusal>
     requires { length numbers.now ≤ line_count }
     ensures { LinePromise numbers.now out.old result out.new }
@@ -86,7 +86,7 @@ pub fn end(out: &mut [u8], numbers: EndNumbers) -> Result<usize, Refusal>
     three(out, b"end ", numbers)
 }
 
-// The lowest 32 bits of a number: a line's numbers have no more.
+// The lowest 32 bits of a number: a line's numbers have no more. By a remainder, since a cast may lose no bits.
 pub fn low(n: usize) -> u32
     ensures { result ≡ low32 n }
 {

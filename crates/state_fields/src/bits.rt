@@ -38,7 +38,7 @@ pub fn power(k: u32) -> u64
     1u64 << (k % 64)
 }
 
-// Bits of one word.
+// Bits of one word. Each of these says how narrow it asks the bits to be: a struct of a place and a width would be made for every call, of numbers that stand in the code.
 pub(crate) fn bits(x: u64, at: u32, width: u32) -> u64
     requires { (at < 64) × (width < 64) }
     ensures { result ≡ bits_at at width x }

@@ -89,7 +89,8 @@ pub fn model_ok(m: Model) -> bool
     }
 }
 
-// What an event writes, on a model of which it is known whether it holds what it may.
+// What an event writes, on a model of which it is known whether it holds what it may. That stands beside the model, here and below, and not in a struct with it: a loop asks it once, of a model that
+// then moves.
 #[tactic(auto, unfolding(crate::specs::Steps::change_of))]
 fn change(ok: bool, m: Model, t: Turn) -> Result<(State, Way), Refusal>
     requires { ok ≡ model_ok m }

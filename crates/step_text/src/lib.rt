@@ -39,7 +39,7 @@ fn ending(
     Ok(bytes + start)
 }
 
-// A page's lines, and the last line if the log ends behind them.
+// A page's lines, and the last line if the log ends behind them. The page by value: behind a reference its count's range isn't known.
 fn page(out: &mut [u8], p: Page) -> Result<usize, Refusal>
     ensures { let text = page_text p.count p.lines ++ last_text p.walk.number p.walk.place (stop_told p.stop) in (written_told result ≡ written text out.old) × (out.new ≡ put text out.old) × (length text ≤ most_text) }
 {
@@ -78,7 +78,11 @@ pub fn print(out: &mut [u8], log: &[u8], from: Walk) -> Result<Printed, Refusal>
     ensures { PrintPromise log.now from out.old result out.new }
 {
     if 65536 < log.len() {
-        return told(text::end(out, [0, 13, 0]), from, true);
+        return told(
+            text::end(out, [0, u32::from(Refusal::InputTooLong), 0]),
+            from,
+            true,
+        );
     }
     let p = paging::turn(log, from);
     let put = page(out, p);

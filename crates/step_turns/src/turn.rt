@@ -9,7 +9,8 @@ use log_event::spelled::{SpelledProfile, SpelledSample};
 use state_parts::profile::Profile;
 use state_parts::sample::Sample;
 
-// It opens a run with a held profile, or it follows; or a number of it is outside its kind's range.
+// It opens a run with a held profile, or it follows; or a number of it is outside its kind's range. Four cases and no `Result`: where no power-on came before, what is outside a range is judged by
+// whether it opens or follows.
 #[derive(Clone, Copy)]
 pub enum Turn {
     Opens(Profile),
