@@ -38,8 +38,8 @@
  * calls itself. `make test` holds the archive to these figures, 64 bytes more or less.
  *
  *     event  2,016    play     2,000    replay 2,144
- *     report 1,104    register   880    compare  528
- *     write    544    off        264    rules      8
+ *     report   704    register   672    compare  528
+ *     write    464    off        264    rules      8
  */
 #ifndef CHEUKDANE_H
 #define CHEUKDANE_H
