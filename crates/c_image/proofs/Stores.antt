@@ -1,14 +1,14 @@
 -- What the functions of `image` ask, over plain values.
-use Prim.Native.Nat.{ℕ, ◌-◌, ◌/◌, ◌%◌}
-use mathlib.Core.Path.{◌≡◌, refl, sym, ap, ◌∙◌}
-use mathlib.Core.Bool.{Bool, true, false, ◌&&◌}
+use Prim.Native.Nat.{ℕ, ◌-◌}
+use mathlib.Core.Path.{◌≡◌, sym, ap, ◌∙◌}
+use mathlib.Core.Bool.{◌&&◌}
 use mathlib.Core.List.{List, [], ◌∷◌}
 use native.Mathlib.Omega.{arith}
-use lib.Dec.{eqb}
 use lib.ListN.{length, take, drop, get_or, length-drop}
 use lib.Seq.{sets, length-sets, take_all}
 use borrow.Rule.Slice.PartMut.{put_mid}
 use borrow.Author.Tests.{ne_eqb}
+use Rattle.std.proofs.Math.Bool.{and_assoc}
 use Rattle.base.specs.Told.{Told, refused}
 use Rattle.base.specs.Writing.{put}
 use Rattle.base.proofs.Puts.{put-fits, lent, sets-append}
@@ -55,20 +55,11 @@ unfolding model_in
 not_long bytes h = rw (← differ (image_of (model_from bytes)) bytes (λ e. h (sym (ap length e) ∙ image-long (model_from bytes))))
 
 -- comparing: a first word's bytes, and those after it
-all-four : (a b c d e : Bool) → (a && (b && (c && (d && e)))) ≡ ((a && (b && (c && (d && true)))) && e)
-all-four true true true true e = refl
-all-four true true true false e = refl
-all-four true true false d e = refl
-all-four true false c d e = refl
-all-four false b c d e = refl
-
 pub both_same : (bytes ns : List ℕ) (first : ℕ) → length bytes ≡ image_length
     → (same_bytes (bytes_of (first ∷ [])) (take 4 bytes) && same_bytes (bytes_of ns) (take (length bytes - 4) (drop 4 bytes))) ≡ same_bytes (bytes_of (first ∷ ns)) bytes
 unfolding bytes_of same_bytes
-both_same (a ∷ b ∷ c ∷ d ∷ bytes) ns first l =
-    rw (take_all (length (a ∷ b ∷ c ∷ d ∷ bytes) - 4) bytes (omega arith))
-    (sym (all-four (eqb (first % 256) a) (eqb (first / 256 % 256) b) (eqb (first / 65536 % 256) c) (eqb (first / 16777216 % 256) d) (same_bytes (bytes_of ns) bytes)))
-both_same [] ns first l = absurd (let z : 0 ≡ image_length = l in omega arith)
-both_same (a ∷ []) ns first l = absurd (let z : 1 ≡ image_length = l in omega arith)
-both_same (a ∷ b ∷ []) ns first l = absurd (let z : 2 ≡ image_length = l in omega arith)
-both_same (a ∷ b ∷ c ∷ []) ns first l = absurd (let z : 3 ≡ image_length = l in omega arith)
+both_same (a ∷ b ∷ c ∷ d ∷ bytes) ns first l = rw (take_all (length (a ∷ b ∷ c ∷ d ∷ bytes) - 4) bytes (omega arith)) (simp and_assoc)
+both_same [] ns first l = absurd (omega arith)
+both_same (a ∷ []) ns first l = absurd (omega arith)
+both_same (a ∷ b ∷ []) ns first l = absurd (omega arith)
+both_same (a ∷ b ∷ c ∷ []) ns first l = absurd (omega arith)

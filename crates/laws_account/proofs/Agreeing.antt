@@ -11,7 +11,7 @@ use Rattle.state_parts.specs.declared.state.Model.TheVariants.{Off, On}
 use Rattle.state_valid.specs.Holds.{profile_ok, state_ok}
 use Rattle.log_event.specs.declared.Event.{Event}
 use Rattle.step_turns.specs.Turns.{turn_of}
-use Rattle.step_turns.specs.Promises.{LaterFits, TurnFits}
+use Rattle.step_turns.specs.Promises.{TurnFits}
 use Rattle.step_turns.specs.declared.turn.Turn.{Turn}
 use Rattle.step_turns.specs.declared.turn.Turn.TheVariants.{Opens, Follows, OpensOutside, FollowsOutside}
 use Rattle.step_turns.proofs.Fitting.{every-turn-fits}

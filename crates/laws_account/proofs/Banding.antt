@@ -5,7 +5,7 @@ use mathlib.Core.Path.{◌≡◌, refl, sym, ap, subst, ◌∙◌}
 use mathlib.Core.Bool.{Bool, true, false, not, ◌&&◌, ◌||◌, true≢false, false≢true, and-false}
 use mathlib.Core.Logic.{◌⊎◌, inl, inr}
 use lib.Dec.{leb, ltb, eqb}
-use borrow.Author.Tests.{le-leb, lt-leb, le-ltb, lt-ltb, leb-true, leb-false, ltb-true, eqb-true, not-true}
+use borrow.Author.Tests.{le-leb, le-ltb, lt-ltb, leb-true, leb-false, ltb-true, not-true}
 use Rattle.base.specs.Pick.{pick}
 use Rattle.base.proofs.Tests.{and-iff}
 use Rattle.state_parts.specs.declared.band.TsBand.{TsBand}
@@ -13,15 +13,15 @@ use Rattle.state_parts.specs.declared.band.TsBand.TheVariants.{Normal, Cold, Coo
 use Rattle.state_parts.specs.declared.profile.Profile.{Profile}
 use Rattle.settle_bands.specs.Thresholds.{th1_at, th2_at, th3_at, th5_at, first_band, band_by, marks_of, band_of}
 use Rattle.settle_bands.specs.Joined.{is_band}
-use Rattle.settle_bands.specs.Holding.{holds_bands, back_by, ended_by, at_once, stays_by, next_by, next_of}
+use Rattle.settle_bands.specs.Holding.{holds_bands, at_once, stays_by, next_by, next_of}
 use Rattle.settle_bands.specs.declared.thresholds.Marks.{Marks}
 use Rattle.settle_bands.proofs.Firsts.{cold-least, hot-most, cool-least, warm-most}
 use Rattle.settle_bands.proofs.Held.{holds-as-said}
-use Rattle.state_table.specs.Rows.{en_ts, en_jeita}
+use Rattle.state_table.specs.Rows.{en_ts}
 use Rattle.step_turns.specs.declared.later.Later.{Later}
 use Rattle.laws_account.specs.History.{Run, powered, ◌▸◌, since}
-use Rattle.laws_account.specs.Held.{profile_of, sample_of, field_at}
-use Rattle.laws_account.specs.Bands.{Thermistor, ts_of, judged, jeita, th1, th2, th3, th5, fresh_at, margin, ts_at, cold_at, hot_at, mild, cool_at, warm_at, ts_band_at}
+use Rattle.laws_account.specs.Held.{profile_of, field_at}
+use Rattle.laws_account.specs.Bands.{Thermistor, judged, jeita, th1, th2, th3, th5, fresh_at, margin, ts_at, cold_at, hot_at, mild, cool_at, warm_at, ts_band_at}
 use Rattle.laws_account.specs.States.{registers_at}
 use Rattle.laws_account.proofs.Fields as field
 

@@ -1,5 +1,5 @@
 -- What settling finds after an event: the state that each kind of event writes is the account's, but for what settling is still to judge.
-use Prim.Native.Nat.{ℕ, ◌*◌, ◌%◌}
+use Prim.Native.Nat.{ℕ, ◌*◌}
 use native.Mathlib.Nat.{add-zero}
 use mathlib.Core.Path.{◌≡◌, refl, sym, ap, ◌∙◌}
 use mathlib.Core.Bool.{Bool, true, false, not, ◌&&◌, ◌||◌}
@@ -32,7 +32,7 @@ use Rattle.step_kinds.specs.Plain.{serviced_of, acted_of}
 use Rattle.laws_account.specs.History.{Run, ◌▸◌}
 use Rattle.step_turns.specs.declared.later.Later.{Later}
 use Rattle.step_turns.specs.declared.later.Later.TheVariants.{Set, Write, TakeFlags, Observe, Service, Reset, WriteRun, ReadFlags}
-use Rattle.laws_account.specs.Held.{profile_of, sample_of, regulated, elapsed, was_reset, was_served, expired, overridden, takes, cells_of, field_at}
+use Rattle.laws_account.specs.Held.{profile_of, sample_of, regulated, elapsed, was_reset, was_served, expired, takes, cells_of, field_at}
 use Rattle.laws_account.specs.Valued.{given_by, setting_of, run_gives}
 use Rattle.laws_account.specs.Bands.{bands_at}
 use Rattle.laws_account.specs.Cycles.{Stage, trickle, precharge, fast, limit_of, held_in, units_after, gave, is_done, was_done, time_in, time_found, phase_at}

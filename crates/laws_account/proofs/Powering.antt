@@ -1,5 +1,5 @@
 -- The state that a power-on makes is the account's of a run without later events.
-use Prim.Native.Nat.{ℕ, ◌*◌, ◌-◌, ◌<◌, min}
+use Prim.Native.Nat.{ℕ, ◌*◌, ◌-◌, ◌<◌}
 use native.Mathlib.Omega.{arith}
 use mathlib.Core.Path.{◌≡◌, refl, sym, ap, ◌∙◌}
 use mathlib.Core.Bool.{Bool, true, false, not, ◌&&◌, ◌||◌}

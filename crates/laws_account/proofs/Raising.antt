@@ -19,11 +19,10 @@ use Rattle.settle_all.specs.Settle.{settle_of}
 use Rattle.step_kinds.specs.Answers.{Outcome}
 use Rattle.step_kinds.specs.Finish.{observing, kept_by, handed_by, pulses_by, finish_of, flags_left}
 use Rattle.step_kinds.specs.declared.change.Way.{Way}
-use Rattle.step_kinds.specs.declared.change.Way.TheVariants.{Plain, Observes, Takes, Reads}
 use Rattle.laws_account.specs.History.{Run, ◌▸◌, since}
 use Rattle.step_turns.specs.declared.later.Later.{Later}
 use Rattle.step_turns.specs.declared.later.Later.TheVariants.{TakeFlags, ReadFlags}
-use Rattle.laws_account.specs.Held.{profile_of, was_observed, expired}
+use Rattle.laws_account.specs.Held.{profile_of, was_observed}
 use Rattle.laws_account.specs.Valued.{setting_of}
 use Rattle.laws_account.specs.Judged.{input_good}
 use Rattle.laws_account.specs.Cycles.{limit_reached, phase_at}

@@ -1,20 +1,15 @@
 -- What the registers of a run leave, one after the other, is what the account says: settings number by number, stored fields one by one, and the count.
-use Prim.Native.Nat.{ℕ, zero, suc, ◌+◌, ◌-◌, ◌*◌, ◌%◌, ◌^◌, ◌≤◌, ◌<◌}
-use mathlib.Core.Path.{◌≡◌, refl, sym, ap, subst, ◌∙◌}
-use mathlib.Core.Bool.{Bool, true, false, not, ◌&&◌, false≢true}
+use Prim.Native.Nat.{ℕ, zero, suc, ◌+◌, ◌-◌, ◌*◌, ◌%◌, ◌^◌, ◌<◌}
+use mathlib.Core.Path.{◌≡◌, refl, sym, ap, ◌∙◌}
+use mathlib.Core.Bool.{Bool, true, false, not, ◌&&◌}
 use mathlib.Core.List.{List, [], ◌∷◌}
 use native.Mathlib.Nat.{mod-lt, mod-eq_of_lt}
 use native.Mathlib.Omega.{arith}
 use lib.Pow.{pow_pos}
 use lib.Dec.{leb, ltb, eqb}
-use borrow.Author.Tests.{leb-true, leb-false, ltb-true, ltb-false, eqb-true, eqb-false, le-leb, lt-leb, lt-ltb, le-ltb}
+use borrow.Author.Tests.{leb-true, ltb-true, ltb-false, eqb-true, eqb-false, le-leb, lt-ltb, le-ltb}
 use Rattle.base.specs.Pick.{pick}
-use Rattle.log_raw.specs.Raw.{byte_of}
-use Rattle.log_raw.specs.Struct.{raw_of}
-use Rattle.log_raw.specs.declared.RawBytes.{RawBytes}
-use Rattle.state_parts.specs.declared.profile.Profile.{Profile}
 use Rattle.state_parts.specs.declared.settings.Settings.{Settings}
-use Rattle.state_parts.specs.declared.words.Words.{Words}
 use Rattle.state_table.specs.Rows.{Field, fields_of, over, digit_of, cell_pin}
 use Rattle.state_table.specs.declared.Access.{Access}
 use Rattle.state_table.specs.declared.Access.TheVariants.{Reserved, Fixed, Status, Flag, Stored, Setting, Mask, Counted, Pin, Acts}
@@ -25,12 +20,12 @@ use Rattle.state_fields.proofs.Taken.{taken-gathered}
 use Rattle.state_settings.specs.Numbered.{store_of}
 use Rattle.state_registers.specs.Writes as registers
 use Rattle.state_runs.specs.Bytes.{value_in, stepwise, is_written, written_code}
-use Rattle.state_runs.specs.Registers.{masked, setting_by, settings_taken, register_taken}
+use Rattle.state_runs.specs.Registers.{setting_by, settings_taken, register_taken}
 use Rattle.state_runs.specs.Runs.{kept_run}
 use Rattle.state_runs.specs.declared.registers.Kept.{Kept}
 use Rattle.laws_account.specs.History.{Run}
 use Rattle.laws_account.specs.Held.{profile_of, cell, overridden, takes, cells_of, field_at}
-use Rattle.laws_account.specs.Valued.{setting_of, recounted, field_gives, register_gives, run_gives}
+use Rattle.laws_account.specs.Valued.{setting_of, field_gives, register_gives}
 use Rattle.laws_account.specs.States.{numbered, settings_at, registers_at}
 use Rattle.laws_account.proofs.Fields.{small, reset-small, in-register, count-taken}
 use Rattle.laws_account.proofs.Values.{store_is, count-is}

@@ -23,7 +23,7 @@ use Rattle.laws_account.proofs.Sharing.{share-is}
 use Rattle.laws_account.proofs.Judging.{voltage-is, pack-is}
 use Rattle.settle_levels.specs.Voltage.{charge_voltage_of}
 use Rattle.state_parts.specs.Stages.{charging}
-use Rattle.laws_account.specs.States.{settings_at, registers_at, state_by, state_of}
+use Rattle.laws_account.specs.States.{settings_at, registers_at, state_by}
 use Rattle.laws_account.specs.Looked.{ReportIsModel}
 use Rattle.laws_account.specs.Reported.{fast_at, limit_at, current_at, voltage_at, report_at}
 

@@ -6,7 +6,6 @@ use lib.Dec.{leb, ltb, eqb}
 use Rattle.base.specs.Pick.{pick}
 use Rattle.base.specs.Told.{Told, accepted, refused}
 use Rattle.state_parts.specs.Edges.{no_flags}
-use Rattle.step_flags.specs.Edges.{seen_of}
 use Rattle.state_parts.specs.declared.profile.Profile.{Profile}
 use Rattle.state_parts.specs.declared.sample.Sample.{Sample}
 use Rattle.state_parts.specs.declared.state.Model.{Model}
@@ -22,8 +21,8 @@ use Rattle.log_raw.specs.Struct.{raw_of}
 use Rattle.log_raw.specs.declared.RawBytes.{RawBytes}
 use Rattle.state_runs.specs.Bytes.{value_in, is_written}
 use Rattle.state_runs.specs.Runs.{halves, illegal_frequency, bad_run, write_run_of}
-use Rattle.step_turns.specs.declared.turn.Turn.TheVariants.{Opens, Follows}
-use Rattle.step_kinds.specs.Answers.{Outcome, refused_with}
+use Rattle.step_turns.specs.declared.turn.Turn.TheVariants.{Follows}
+use Rattle.step_kinds.specs.Answers.{Outcome}
 use Rattle.step_kinds.specs.Changes.{Changed, changed}
 use Rattle.step_kinds.specs.Finish.{finish_of}
 use Rattle.step_kinds.specs.Plain.{after_write, set_of, written_of, acted_of, after_run, run_from, read_flags_of}
@@ -35,12 +34,12 @@ use Rattle.step_turns.specs.declared.later.Later.TheVariants.{Set, Write, TakeFl
 use Rattle.laws_account.specs.Held.{profile_of, elapsed, was_observed}
 use Rattle.laws_account.specs.Cycles.{phase_at}
 use Rattle.laws_account.specs.Flagged.{Flag, was_taken, handed_back, pulsed}
-use Rattle.laws_account.specs.Refused.{refusal_in, Past, some}
-use Rattle.laws_account.specs.States.{state_by, state_of, model_of, comes_to}
+use Rattle.laws_account.specs.Refused.{refusal_in, some}
+use Rattle.laws_account.specs.States.{state_by, state_of, comes_to}
 use Rattle.laws_account.proofs.Found.{written_by}
 use Rattle.laws_account.proofs.Powering.{powered-is}
 use Rattle.laws_account.proofs.Refusing.{set-refused, frequency-refused, half-refused, run-refused}
-use Rattle.laws_account.proofs.Raising.{ended, finish-is, kept-is, taken_is, hands-held, read_is, hands-byte}
+use Rattle.laws_account.proofs.Raising.{finish-is, kept-is, taken_is, hands-held, read_is, hands-byte}
 
 -- what an accepted event comes to
 abbrev pub accepted_at : Run → Outcome

@@ -10,20 +10,15 @@ use Rattle.base.specs.Pick.{bit_of}
 use Rattle.base.specs.Volts.{millivolts_of}
 use Rattle.log_event.specs.declared.Event.{Event}
 use Rattle.state_parts.specs.Numbers.{phase_number}
-use Rattle.state_parts.specs.With.{with_edition}
-use Rattle.state_parts.specs.declared.profile.Profile.{Profile}
 use Rattle.state_parts.specs.declared.state.State.{State}
 use Rattle.state_parts.specs.declared.state.Model.{Model}
 use Rattle.state_parts.specs.declared.state.Model.TheVariants.{Off, On}
-use Rattle.state_valid.specs.Holds.{profile_ok}
 use Rattle.state_valid.proofs.Bounds.{profile-bounds}
 use Rattle.settle_bands.specs.Effect.{share_of, cut_of}
 use Rattle.settle_bands.specs.Holding.{fresh_bands}
 use Rattle.settle_levels.specs.Clamps.{pack_clamp_of, base_of}
 use Rattle.settle_levels.specs.Voltage.{charge_voltage_of}
 use Rattle.report_state.specs.Report.{charge_clamp_of, fast_current, input_limit_of, report_of}
-use Rattle.report_state.specs.declared.answer.Report.{Report}
-use Rattle.report_state.specs.declared.line.Line.{Line}
 use Rattle.step_kinds.specs.Answers.{Outcome}
 use Rattle.step_event.specs.Steps.{step_of}
 use Rattle.laws_step.specs.Editions.{in_edition, model_in, JudgedAfresh, AlikeButEdition}
@@ -32,13 +27,12 @@ use Rattle.laws_step.specs.Powered.{FirstActsAsOne}
 use Rattle.laws_step.proofs.Powered.{first-acts-as-one}
 use Rattle.laws_account.specs.History.{Run, powered, ◌▸◌}
 use Rattle.laws_account.specs.Held.{profile_of}
-use Rattle.laws_account.specs.Bands.{Thermistor, first_ts, second_ts, ts_band_at, bands_at}
+use Rattle.laws_account.specs.Bands.{first_ts, second_ts, bands_at}
 use Rattle.laws_account.specs.Refused.{Accepted, Past, none, some, next_of}
 use Rattle.laws_account.specs.States.{state_by, state_of, model_of}
 use Rattle.laws_account.specs.Runs.{Lawful}
 use Rattle.laws_account.proofs.Banding.{fresh-is}
 use Rattle.laws_account.proofs.Agreeing.{keeps-lawful, next-model}
-use Rattle.laws_third.specs.Editions.{KeptAt}
 use Rattle.laws_third.proofs.Editions.{afresh}
 use Rattle.laws_demands.specs.Printed.{report_in, flags_in, kind_number, line_by, lines_by}
 use Rattle.laws_demands.specs.Editions.{EveryProductActsAsOne, opening, NothingKept, KeepsNothing, EditionsPrintAlike}

@@ -1,6 +1,6 @@
 -- Wrong readings of a run of bytes and of a flag register's read break demand 1 or 2: a list of events at which each and this product come to different numbers.
 use Prim.Native.Nat.{ℕ}
-use mathlib.Core.Path.{◌≡◌, refl, ap}
+use mathlib.Core.Path.{refl, ap}
 use mathlib.Core.List.{[], ◌∷◌}
 use native.Mathlib.Omega.{arith}
 use Rattle.state_parts.specs.declared.state.Model.{Model}

@@ -1,12 +1,10 @@
 -- 02, R-8, wrong readings of the hold: each is this product's step, but that it settles by other bands.
 use Rattle.std.specs.Prelude.{ℕ, Bool, not, ◌&&◌, ◌||◌}
 use Rattle.base.specs.Pick.{pick}
-use Rattle.state_parts.specs.declared.band.Bands.{Bands}
 use Rattle.state_parts.specs.declared.band.TsBand.{TsBand}
 use Rattle.state_parts.specs.declared.band.TsBand.TheVariants.{Normal}
 use Rattle.state_parts.specs.declared.profile.Profile.{Profile}
 use Rattle.state_parts.specs.declared.registers.Registers.{Registers}
-use Rattle.state_parts.specs.declared.sample.Sample.{Sample}
 use Rattle.state_parts.specs.declared.state.Model.TheVariants.{Off, On}
 use Rattle.settle_bands.specs.Thresholds.{marks_of, band_of}
 use Rattle.settle_bands.specs.Joined.{is_band}

@@ -1,6 +1,6 @@
 -- The reset and service bits of a run act as kinds 7 and 6, after its other bytes.
 use Prim.Native.Nat.{ℕ, ◌+◌, ◌-◌, ◌*◌, ◌/◌, ◌%◌, ◌^◌}
-use mathlib.Core.Path.{◌≡◌, refl, sym, ap, ◌∙◌}
+use mathlib.Core.Path.{◌≡◌, refl, ap, ◌∙◌}
 use mathlib.Core.Bool.{Bool, true, false, ◌&&◌}
 use native.Mathlib.Omega.{arith}
 use lib.Dec.{leb, ltb, eqb}
@@ -10,12 +10,11 @@ use Rattle.log_raw.specs.Raw.{Raw, byte_of}
 use Rattle.state_parts.specs.declared.state.State.{State}
 use Rattle.state_registers.specs.Resets.{reset_of}
 use Rattle.state_runs.specs.Runs.{write_run_of, resets, serves}
-use Rattle.step_turns.specs.declared.later.Later.TheVariants.{Service, Reset}
-use Rattle.step_kinds.specs.Changes.{Changed, changed}
+use Rattle.step_kinds.specs.Changes.{changed}
 use Rattle.step_kinds.specs.declared.change.Way.TheVariants.{Plain}
 use Rattle.step_kinds.specs.Plain.{serviced_of, acted_of, after_run, run_from}
 use Rattle.step_event.specs.Steps.{followed_of}
-use Rattle.laws_registers.specs.Acts.{bit_written, reset_bit, service_bit, ActsAfter, BitsAct}
+use Rattle.laws_registers.specs.Acts.{reset_bit, service_bit, BitsAct}
 
 -- a bit of a register's byte is that of its value, whatever byte stands above it
 picked : (there : Bool) (code bit : ℕ) → code ≡ bit → (there && eqb code 1) ≡ eqb (pick there bit 0) 1

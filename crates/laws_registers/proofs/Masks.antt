@@ -1,7 +1,7 @@
 -- A run of a mask register's byte is the set of setting 14 that the whole byte stands for; and not of a single mask where bits 0 and 1 differ.
 use Prim.Native.Nat.{ℕ, ◌%◌, ◌^◌, ◌<◌}
 use mathlib.Core.Path.{◌≡◌, refl, sym, ap, subst, ◌∙◌}
-use mathlib.Core.Bool.{Bool, true, false, not, false≢true}
+use mathlib.Core.Bool.{Bool, true, false, false≢true}
 use native.Mathlib.Omega.{arith}
 use lib.Dec.{eqb}
 use borrow.Author.Tests.{ne_eqb}
@@ -14,7 +14,7 @@ use Rattle.state_fields.specs.Held.{field_of, taken_by}
 use Rattle.state_fields.specs.Words.{put_at}
 use Rattle.state_fields.proofs.Fields.{field-mod}
 use Rattle.state_fields.proofs.Puts.{put_small, put-below}
-use Rattle.state_fields.proofs.Gathers.{nth, stored}
+use Rattle.state_fields.proofs.Gathers.{nth}
 use Rattle.state_parts.specs.With.{with_settings}
 use Rattle.state_parts.specs.declared.profile.Profile.{Profile}
 use Rattle.state_parts.specs.declared.settings.Settings.{Settings}

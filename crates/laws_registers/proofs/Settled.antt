@@ -1,5 +1,5 @@
 -- Settling leaves what a run wrote, but for EN_CHG.
-use Prim.Native.Nat.{ℕ, ◌≤◌}
+use Prim.Native.Nat.{ℕ}
 use mathlib.Core.Path.{◌≡◌, refl}
 use mathlib.Core.Bool.{Bool, true, false, not, ◌&&◌}
 use native.Mathlib.Omega.{arith}
@@ -7,7 +7,6 @@ use Rattle.base.specs.Pick.{pick, bit_of}
 use Rattle.base.proofs.Span.{span}
 use Rattle.settle_all.specs.Settle.{forced_of, settled_of, settle_of}
 use Rattle.settle_levels.specs.Clamps.{fault_of}
-use Rattle.state_parts.specs.declared.state.State.{State}
 use Rattle.state_settings.specs.Numbered.{setting_numbers, held_of}
 use Rattle.state_settings.specs.Ranges.{last_setting}
 use Rattle.laws_registers.specs.Settled.{SettlingMovesEnable}

@@ -3,13 +3,12 @@ use Prim.Native.Nat.{ℕ, ◌+◌}
 use mathlib.Core.Path.{◌≡◌, refl, sym, ap, subst, ◌∙◌}
 use mathlib.Core.Bool.{Bool, true, false, not, ◌&&◌, ◌||◌}
 use lib.Dec.{leb, ltb, eqb}
-use mathlib.Core.Logic.{◌≢◌, inl, inr}
+use mathlib.Core.Logic.{inl, inr}
 use native.Mathlib.Omega.{arith}
 use Rattle.base.specs.Pick.{pick}
-use Rattle.state_parts.specs.With.{with_profile, with_edition}
+use Rattle.state_parts.specs.With.{with_edition}
 use Rattle.state_parts.specs.declared.band.Bands.{Bands}
 use Rattle.state_parts.specs.declared.profile.Profile.{Profile}
-use Rattle.state_parts.specs.declared.registers.Registers.{Registers}
 use Rattle.state_parts.specs.declared.sample.Sample.{Sample}
 use Rattle.state_parts.specs.declared.state.State.{State}
 use Rattle.state_table.specs.Rows.{Field, fields_of, over, digit_of, fsw, frequency_ok}
@@ -22,7 +21,7 @@ use Rattle.settle_bands.proofs.Held.{by-edition}
 use Rattle.settle_bands.specs.Effect.{suspends_of, cut_of}
 use Rattle.settle_levels.specs.Clamps.{fault_of, pack_clamp_of, base_of}
 use Rattle.settle_levels.specs.Comparators.{short_of, low_of, pack_over_of, latches_of}
-use Rattle.settle_levels.specs.Voltage.{charge_voltage_of, taper_of, below_recharge}
+use Rattle.settle_levels.specs.Voltage.{charge_voltage_of, below_recharge}
 use Rattle.settle_permission.specs.Limits.{reached_of}
 use Rattle.settle_permission.specs.Permission.{permitted_of}
 use Rattle.settle_all.specs.Gather.{tests_of}

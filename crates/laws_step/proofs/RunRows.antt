@@ -1,12 +1,11 @@
 -- The tests of a run of bytes, and the statements that they stand for, each way.
-use Prim.Native.Nat.{ℕ, ◌+◌, ◌-◌, ◌*◌, ◌%◌, ◌≤◌, ◌<◌}
-use mathlib.Core.Path.{◌≡◌, refl, sym, ap, subst, ◌∙◌}
+use Prim.Native.Nat.{ℕ, ◌+◌, ◌-◌, ◌*◌, ◌%◌}
+use mathlib.Core.Path.{◌≡◌, refl, sym, ap, subst}
 use mathlib.Core.Bool.{Bool, true, false, not, ◌&&◌, ◌||◌, false≢true}
 use mathlib.Core.Logic.{◌↔◌, ◌⊎◌, inl, inr}
 use native.Mathlib.Omega.{arith}
 use lib.Dec.{leb, ltb, eqb}
-use lib.ListN.{get_or}
-use borrow.Author.Tests.{leb-true, leb-false, ltb-true, le-leb, lt-leb, lt-ltb, eqb-true, eq-eqb, not-true, not-false}
+use borrow.Author.Tests.{leb-true, ltb-true, le-leb, lt-ltb, eqb-true, eq-eqb, not-true}
 use Rattle.base.proofs.Tests.{and-iff}
 use Rattle.log_raw.specs.Raw.{byte_of, has_spelling}
 use Rattle.log_raw.specs.Struct.{raw_of}
@@ -15,17 +14,17 @@ use Rattle.log_raw.proofs.Soundness.{spelling-told}
 use Rattle.report_registers.specs.Reads.{flag_register}
 use Rattle.state_parts.specs.declared.profile.Profile.{Profile}
 use Rattle.state_settings.specs.Ranges.{last_setting, may_hold}
-use Rattle.state_table.specs.Rows.{Field, fields, fsw, digit_of, frequency_ok}
-use Rattle.state_table.specs.Packed.{no_field, field_at}
+use Rattle.state_table.specs.Rows.{Field, fields, fsw, frequency_ok}
+use Rattle.state_table.specs.Packed.{field_at}
 use Rattle.state_table.specs.declared.Access.{Access}
 use Rattle.state_table.specs.declared.Access.TheVariants.{Reserved, Fixed, Status, Flag, Stored, Setting, Mask, Counted, Pin, Acts}
 use Rattle.state_table.proofs.Tested.{every, at, long}
 use Rattle.state_runs.specs.Bytes.{value_in, is_written, written_code}
 use Rattle.state_runs.specs.Registers.{bad_by}
-use Rattle.state_runs.specs.Runs.{outside, in_middle, halves, illegal_frequency, bad_run}
+use Rattle.state_runs.specs.Runs.{in_middle, halves, illegal_frequency, bad_run}
 use Rattle.state_runs.proofs.Middles.{middles-listed}
-use Rattle.state_runs.proofs.Rows.{BadAt, bad-somewhere, bad-found}
-use Rattle.laws_step.specs.Ranged.{Among, ValueIn}
+use Rattle.state_runs.proofs.Rows.{bad-somewhere, bad-found}
+use Rattle.laws_step.specs.Ranged.{Among}
 use Rattle.laws_step.specs.RunRows.{Spelled, InMap, UpperHalf, HasHalf, Written, NoFrequency, Unheld}
 use Rattle.laws_step.proofs.InRanges as ranges
 use Rattle.laws_step.proofs.InRanges.{among, value-in, bad-frequency-is}

@@ -1,7 +1,7 @@
 -- No sum of an accepted observation wraps.
 use Prim.Native.Nat.{ℕ, zero, suc, ◌≤◌}
 use mathlib.Core.Path.{◌≡◌, refl, sym, ◌∙◌}
-use mathlib.Core.Bool.{Bool, true, false, not, or-false}
+use mathlib.Core.Bool.{Bool, true, false, or-false}
 use native.Mathlib.Omega.{arith}
 use lib.Dec.{ltb, eqb}
 use borrow.Author.Tests.{eqb-true, ltb-false}
@@ -11,7 +11,6 @@ use Rattle.base.specs.Told.{Told, refused, answer_number}
 use Rattle.state_parts.specs.declared.phase.Phase.TheVariants.{Idle}
 use Rattle.state_parts.specs.declared.sample.Sample.{Sample}
 use Rattle.state_parts.specs.declared.state.State.{State}
-use Rattle.state_parts.specs.declared.state.Model.{Model}
 use Rattle.state_parts.specs.declared.state.Model.TheVariants.{On}
 use Rattle.state_valid.specs.Holds.{stage_ok, state_ok}
 use Rattle.step_turns.specs.declared.later.Later.TheVariants.{Observe}

@@ -18,7 +18,7 @@ use Rattle.settle_all.specs.Settle.{forced_of, settled_of, settle_of}
 use Rattle.settle_all.specs.Gather.{tests_of}
 use Rattle.settle_all.proofs.Rules.{each-settles-once}
 use Rattle.step_kinds.specs.Answers.{Outcome}
-use Rattle.step_kinds.specs.Finish.{observing, kept_by, finish_of}
+use Rattle.step_kinds.specs.Finish.{observing, finish_of}
 use Rattle.step_turns.specs.Turns.{turn_of}
 use Rattle.step_event.specs.Steps.{followed_of, moved_of, change_of, model_ok, seen_on, turned_by, step_of}
 use Rattle.step_event.proofs.Keeps.{Comes, refuses, settles, comes, accepted-passes}

@@ -2,7 +2,6 @@
 -- a row says too that no earlier one of its order holds.
 use Rattle.std.specs.Prelude.{ℕ, ◌≤◌, ◌<◌, ◌≡◌, true, ◌≢◌, ◌⊎◌, pos, negsuc, ◌≤ℤ◌}
 use Rattle.base.specs.Stamps.{elapsed_of}
-use Rattle.state_parts.specs.declared.profile.Profile.{Profile}
 use Rattle.state_parts.specs.declared.state.State.{State}
 use Rattle.state_parts.specs.declared.state.Model.{Model}
 use Rattle.state_parts.specs.declared.state.Model.TheVariants.{Off, On}

@@ -1,7 +1,7 @@
 -- The second edition's bands are the first's exactly where the hold keeps nothing that the first would leave.
 use Prim.Native.Nat.{ℕ, ◌+◌, ◌<◌}
 use mathlib.Core.Path.{◌≡◌, refl, sym, ap, subst, ◌∙◌}
-use mathlib.Core.Bool.{Bool, true, false, not, ◌&&◌, ◌||◌, true≢false, false≢true, and-false}
+use mathlib.Core.Bool.{Bool, true, false, not, ◌&&◌, ◌||◌, false≢true, and-false}
 use mathlib.Core.Logic.{◌≢◌}
 use lib.Dec.{leb, eqb}
 use borrow.Author.Tests.{leb-false, lt-leb, eqb-true, not-true}
@@ -10,7 +10,6 @@ use Rattle.base.proofs.Tests.{and-iff}
 use Rattle.state_parts.specs.declared.band.TsBand.{TsBand}
 use Rattle.state_parts.specs.declared.band.TsBand.TheVariants.{Normal, Cold, Cool, Warm, Hot}
 use Rattle.state_table.specs.Rows.{en_ts, en_jeita}
-use Rattle.settle_bands.specs.Thresholds.{band_by}
 use Rattle.settle_bands.specs.Joined.{is_band}
 use Rattle.settle_bands.specs.Holding.{back_by, ended_by, at_once, stays_by, next_by}
 use Rattle.step_turns.specs.declared.later.Later.{Later}
@@ -18,10 +17,10 @@ use Rattle.laws_account.specs.History.{Run, powered, ◌▸◌}
 use Rattle.laws_account.specs.Held.{profile_of, field_at}
 use Rattle.laws_account.specs.Bands.{Thermistor, first_ts, second_ts, jeita, th1, th2, th3, th5, fresh_at, ts_at, ts_band_at, join_table, band_at}
 use Rattle.laws_account.proofs.Banding.{marks_at, fresh-by, first-is, held_next, start-now}
-use Rattle.laws_third.specs.Banded.{Judged, Jeita, InTsBand}
+use Rattle.laws_third.specs.Banded.{Judged, Jeita}
 use Rattle.laws_third.specs.Editions.{Near, Kept, KeptAt, BandsAgree}
-use Rattle.laws_third.proofs.Means.{Means, eqb-means, and-means, not-means, re-means, false-means}
-use Rattle.laws_third.proofs.TsBands.{judged-means, named, is-itself, no, ts-band-holds, only-ts-band, one-ts-band}
+use Rattle.laws_third.proofs.Means.{Means, eqb-means, and-means, re-means, false-means}
+use Rattle.laws_third.proofs.TsBands.{judged-means, named, is-itself, ts-band-holds, only-ts-band, one-ts-band}
 
 -- ---- what lets a band stay
 apart-one : (off back : Bool) → (not (off || false) && not back) ≡ (not off && not back)

@@ -1,11 +1,11 @@
 -- 02, R-8: "the bands agree wherever the hold keeps nothing that the first edition would leave", of every run.
-use Rattle.std.specs.Prelude.{ℕ, ◌+◌, ◌<◌, ◌≡◌, ◌≢◌, ◌↔◌}
+use Rattle.std.specs.Prelude.{◌+◌, ◌<◌, ◌≡◌, ◌≢◌, ◌↔◌}
 use Rattle.state_parts.specs.declared.band.TsBand.{TsBand}
 use Rattle.state_parts.specs.declared.band.TsBand.TheVariants.{Normal, Cold, Cool, Warm, Hot}
 use Rattle.step_turns.specs.declared.later.Later.{Later}
 use Rattle.laws_account.specs.History.{Run, powered, ◌▸◌}
 use Rattle.laws_account.specs.Held.{profile_of}
-use Rattle.laws_account.specs.Bands.{Thermistor, first_ts, second_ts, th1, th2, th3, th5, fresh_at, ts_at, ts_band_at, join_table, band_at}
+use Rattle.laws_account.specs.Bands.{Thermistor, first_ts, second_ts, th1, th2, th3, th5, fresh_at, ts_at, join_table, band_at}
 use Rattle.laws_third.specs.Banded.{Judged, Jeita, InTsBand}
 
 -- TS is less than 1,000 units back past the threshold that let a band in, which EN_TS and, of cool and warm, EN_JEITA don't end

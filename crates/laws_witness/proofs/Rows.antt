@@ -2,7 +2,7 @@
 use mathlib.Core.Path.{refl}
 use Rattle.base.specs.Units.{in_pack, below_share}
 use Rattle.laws_account.specs.History.{since, sum_after, count, up_to, last_of, total}
-use Rattle.laws_account.specs.Held.{profile_of, sample_of, elapsed, was_observed, was_reset, was_served, unserved, expired, overridden, cells_of, field_at}
+use Rattle.laws_account.specs.Held.{profile_of, sample_of, elapsed, was_observed, was_reset, was_served, unserved, expired, cells_of, field_at}
 use Rattle.laws_account.specs.Valued.{pin_fault, start_value, setting_of}
 use Rattle.laws_account.specs.Judged.{vbat, pack_clamp, base_at, charge_clamp, input_ok, input_over, input_good, short, low, pack_over, suspended, charge_voltage, permitted, tapering, recharge_due, ending}
 use Rattle.laws_account.specs.Bands.{cold_at, hot_at, cool_at, warm_at, ts_band_at, band_at}
