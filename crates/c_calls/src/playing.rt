@@ -59,7 +59,7 @@ pub fn cheukdane_play(image: &mut [u8], log: &[u8], place: usize, shown: &mut [u
     }
 }
 
-// One event outside a log: its number, or the refusal of what isn't played.
+// One event outside a log: its number, or the refusal of what isn't played. The number of an event that was played may be its refusal's, as `land` and `land_of` have it.
 #[tactic(auto, using(crate::proofs::Lands::ready_long, crate::proofs::Lands::lands_alone), unfolding(crate::specs::Playing::event_call_of))]
 fn given(image: &mut [u8], kind: u32, bytes: &[u8], shown: &mut [u8]) -> Result<u32, Refusal>
     ensures { both (answered (number_in result)) image.new shown.new ≡ event_call_of image.old kind bytes.now shown.old }

@@ -29,7 +29,7 @@ fn words_of(m: Model) -> (u32, Numbers)
     }
 }
 
-// Saves a model in a part of an image's length: whether it is of that length. If not, no byte is changed.
+// Saves a model in a part of an image's length: whether it is of that length. If not, no byte is changed. A test and no `Result`: `SavePromise` says no refusal, and callers of a held image need none.
 #[tactic(auto, using(crate::proofs::Stores::both_put), unfolding(crate::specs::Images::saved_in, crate::specs::Images::image_of))]
 pub fn save(image: &mut [u8], m: Model) -> bool
     ensures { SavePromise image.old m result image.new }

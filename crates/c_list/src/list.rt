@@ -10,7 +10,7 @@ use state_parts::state::State;
 // A state's numbers.
 pub type Numbers = [u32; COUNT];
 
-// The two halves of a word.
+// The two halves of a word, by a remainder and a quotient: a cast may lose no bits.
 fn low(x: u64) -> u32
     ensures { result ≡ low_half x }
 {

@@ -14,7 +14,7 @@ use std::rt::{Env, Files};
 // What the system answers if a name's bytes are no text: EILSEQ. A path is text here.
 const NOT_TEXT: i32 = 84;
 
-// How many arguments there are, the program's name among them; `most` for more than that.
+// How many arguments there are, the program's name among them; `most` for more than that. What the system answers isn't known, so all that is promised is the bound.
 pub fn arg_count<R: Env>(rt: &R, most: usize) -> usize
     ensures { result ≤ most }
 {

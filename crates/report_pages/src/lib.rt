@@ -16,7 +16,7 @@ pub const PAGE: usize = 16;
 // A page's lines, with the count of those that are meant beside them: of a slice of any length a text would have no most bytes.
 pub type PageLines = [Line; PAGE];
 
-// The nine numbers of a line, in their order.
+// The nine numbers of a line, in their order. No `From`: the array is this crate's way to lend them, and not what a line is.
 #[tactic(auto, unfolding(crate::specs::Text::numbers_of))]
 fn numbers_of(line: Line) -> LineNumbers
     ensures { result ≡ numbers_of line }

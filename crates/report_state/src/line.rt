@@ -5,7 +5,7 @@ ghost use Rattle.report_state.specs.Lines.{line_of};
 use crate::report;
 use state_parts::state::Model;
 
-// The nine numbers of a record's line.
+// The nine numbers of a record's line, as the paper has them printed (`line_of`): so the answer, the phase and the pulse are numbers here.
 #[derive(Clone, Copy)]
 pub struct Line {
     pub number: u32,

@@ -1,4 +1,4 @@
-// The decimal text of one number.
+// The decimal text of one number. No `Display`: a line is written whole or not at all, and its contract says each byte of it (`decimal`, `over`), which what a formatter prints doesn't.
 ghost use Rattle.std.specs.Prelude.{◌≡◌, ◌≤◌, length};
 ghost use Rattle.report_text.specs.Decimal.{decimal};
 ghost use Rattle.report_text.specs.PublicPromises.{WidthPromise};

@@ -98,7 +98,7 @@ fn kept_run(p: Profile, before: Registers, first: u32, raw: RawBytes, k: Kept) -
     u
 }
 
-// What runs change of a state, as it stands.
+// What runs change of a state, as it stands. No `From`: it is one step of a run.
 fn kept_of(s: State) -> Kept
     ensures { result ≡ kept_of s }
 {

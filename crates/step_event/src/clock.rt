@@ -76,10 +76,10 @@ fn cleared(expires: bool, g: Registers) -> Registers
     ensures { result ≡ cleared_if expires g }
 {
     if expires {
-        let words = without_overrides(g.words);
-        let mut r = g;
-        r.words = words;
-        r
+        Registers {
+            words: without_overrides(g.words),
+            ..g
+        }
     } else {
         g
     }
@@ -93,20 +93,17 @@ pub(crate) fn observed(valid: Valid, x: Sample) -> State
     let s = valid.state;
     let p = s.profile;
     let old = s.sample;
-    let held = s.phase;
-    let c = s.cycle;
-    let g = s.registers;
-    let w = s.watchdog;
     let ms = stamp::elapsed(old.stamp, x.stamp);
     let n = units(old, ms);
-    let after = times(p, held, n, c);
-    let dog = counted(p, w, ms);
-    let expires = expiry::expires(p, w, dog);
-    let registers = cleared(expires, g);
-    let mut r = s;
-    r.cycle = after;
-    r.registers = registers;
-    r.watchdog = dog;
-    r.sample = x;
-    r
+    let cycle = times(p, s.phase, n, s.cycle);
+    let watchdog = counted(p, s.watchdog, ms);
+    let expires = expiry::expires(p, s.watchdog, watchdog);
+    let registers = cleared(expires, s.registers);
+    State {
+        cycle,
+        registers,
+        watchdog,
+        sample: x,
+        ..s
+    }
 }

@@ -66,9 +66,7 @@ fn pulses_by(way: Way, edge: bool) -> bool
 fn flagged(s: State, f: u32) -> State
     ensures { result ≡ with_flags s f }
 {
-    let mut r = s;
-    r.flags = f;
-    r
+    State { flags: f, ..s }
 }
 
 // Settles what an event wrote; `before` is what was seen of the state before it.

@@ -34,9 +34,7 @@ pub fn opened(p: Profile) -> (State, Way)
 fn with_settings(s: State, t: Settings) -> State
     ensures { result ≡ with_settings s t }
 {
-    let mut r = s;
-    r.settings = t;
-    r
+    State { settings: t, ..s }
 }
 
 #[tactic(auto, unfolding(crate::specs::Plain::set_of))]
@@ -67,10 +65,10 @@ pub fn write(s: State, address: u32, byte: u32) -> Result<(State, Way), Refusal>
 pub fn serviced(s: State) -> State
     ensures { result ≡ serviced_of s }
 {
-    let zero = state_start::start_watchdog();
-    let mut r = s;
-    r.watchdog = zero;
-    r
+    State {
+        watchdog: state_start::start_watchdog(),
+        ..s
+    }
 }
 
 // The watchdog at zero, if that is asked for.
@@ -88,19 +86,17 @@ fn served_if(asked: bool, w: Watchdog) -> Watchdog
 fn kept_in(s: State, k: Kept, serves: bool) -> State
     ensures { result ≡ with_watchdog (with_kept s k) (pick serves start_watchdog s.watchdog) }
 {
-    let settings = k.settings;
-    let words = k.words;
-    let cells = k.cells;
-    let registers = Registers {
-        words: words,
-        cells: cells,
-    };
-    let watchdog = served_if(serves, s.watchdog);
-    let mut r = s;
-    r.settings = settings;
-    r.registers = registers;
-    r.watchdog = watchdog;
-    r
+    let Kept {
+        settings,
+        words,
+        cells,
+    } = k;
+    State {
+        settings,
+        registers: Registers { words, cells },
+        watchdog: served_if(serves, s.watchdog),
+        ..s
+    }
 }
 
 // The same where a run resets the registers: the settings start anew, and the watchdog is at zero either way.
@@ -108,13 +104,8 @@ fn kept_in(s: State, k: Kept, serves: bool) -> State
 fn kept_reset(s: State, k: Kept) -> State
     ensures { result ≡ reset_of (with_kept s k) }
 {
-    let words = k.words;
-    let cells = k.cells;
-    let registers = Registers {
-        words: words,
-        cells: cells,
-    };
-    resetting::reset_with(s, registers)
+    let Kept { words, cells, .. } = k;
+    resetting::reset_with(s, Registers { words, cells })
 }
 
 // What the reset and service bits of a run do, after its other bytes.

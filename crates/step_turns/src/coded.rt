@@ -4,7 +4,7 @@ ghost use Rattle.step_turns.specs.Coded.{coded_of};
 
 use log_event::spelled::{SpelledProfile, SpelledResistors};
 
-// Kind 1 with the codes that the resistors stand for.
+// Kind 1 with the codes that the resistors stand for. No `From`: it reads the table of resistors, so it is a rule and no change of form.
 pub fn coded(r: SpelledResistors) -> SpelledProfile
     ensures { result ≡ coded_of r }
 {

@@ -25,6 +25,7 @@ fn settings(to: &impl Print, s: State) -> io::Result<()> {
     Ok(())
 }
 
+// The words of the stored outputs, which no other program prints: so no `Display` of the model's enums.
 fn band(b: Band) -> &'static str {
     match b {
         Band::Normal => "normal",
