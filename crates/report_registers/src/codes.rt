@@ -6,7 +6,7 @@ ghost use Rattle.step_flags.specs.Edges.{seen_of};
 ghost use Rattle.report_registers.specs.Reads.{charge_stat, status_of, any_of, all_of, pin_of, code_of};
 
 use base::choice;
-use state_fields::bits::power;
+use state_fields::bits::{part, power};
 use state_fields::codes::field_at;
 use state_parts::phase::Phase;
 use state_parts::profile::Profile;
@@ -26,7 +26,7 @@ fn charge_stat(phase: Phase) -> u32
     }
 }
 
-// A status by its number; the numbers go round.
+// A status by its number in specs/Rows, as `statuses` has them; the numbers go round.
 #[tactic(auto, unfolding(crate::specs::Reads::status_of, crate::specs::Reads::statuses))]
 fn status(x: Seen, number: u32) -> u32
     ensures { result ≡ status_of x number }
@@ -51,9 +51,7 @@ pub(crate) fn any_of(n: u32, first: u32, count: u32) -> u32
     requires { first + count ≤ 31 }
     ensures { result ≡ any_of first count n }
 {
-    let unit = power(first);
-    let most = power(count);
-    let part = (n as u64) / unit % most;
+    let part = part(n, first, count);
     choice::bit(part != 0)
 }
 
@@ -62,13 +60,12 @@ fn all_of(n: u32, first: u32, count: u32) -> u32
     requires { first + count ≤ 31 }
     ensures { result ≡ all_of first count n }
 {
-    let unit = power(first);
     let most = power(count);
-    let part = (n as u64) / unit % most;
+    let part = part(n, first, count);
     choice::bit(part == most - 1)
 }
 
-// A pin's code.
+// A pin's code, by its number in specs/Rows, as `pin_of` has them.
 fn pin(p: Profile, number: u32) -> u32
     ensures { result ≡ pin_of p number }
 {

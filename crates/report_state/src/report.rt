@@ -1,4 +1,5 @@
 // The report: phase, charge current, charge voltage and input limit.
+// What a rule goes by are its parameters, as in its definition: with the whole state in their place each law of the rule would speak of whole states.
 ghost use Rattle.std.specs.Prelude.{◌≡◌, min};
 ghost use Rattle.report_state.specs.Report.{charge_clamp_of, fast_current, trickle_current, current_in, input_limit_of};
 ghost use Rattle.report_state.specs.PublicPromises.{ReportPromise};

@@ -1,4 +1,5 @@
 // The tests of a state.
+// What a rule goes by are its parameters, as in its definition: with the whole state in their place each law of the rule would speak of whole states.
 ghost use Rattle.std.specs.Prelude.{◌≡◌};
 ghost use Rattle.settle_all.specs.Gather.{bad_of, tests_of};
 

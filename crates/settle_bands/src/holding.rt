@@ -1,4 +1,5 @@
 // What a thermistor's band becomes: the second edition of the pack's sheet holds one until TS is well back.
+// What a rule goes by are its parameters, as in its definition: with the whole state in their place each law of the rule would speak of whole states.
 ghost use Rattle.std.specs.Prelude.{◌≡◌};
 ghost use Rattle.settle_bands.specs.Holding.{by_held, back_by, ended_by, at_once, stays_by, next_by, bands_of};
 
@@ -75,6 +76,7 @@ fn next(holds: bool, m: Marks, held: TsBand, ts: u32) -> TsBand
 pub fn bands(profile: Profile, registers: Registers, sample: Sample, held: Bands) -> Bands
     ensures { result ≡ bands_of profile registers sample held }
 {
+    // a number and no enum: the profile holds what any list of numbers gave it (`MadeAgain`)
     let holds = profile.edition == 2;
     let ts = sample.ts;
     let other = sample.secondts;

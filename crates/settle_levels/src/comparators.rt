@@ -20,6 +20,7 @@ fn hold(begins: bool, stays: bool, was: bool) -> bool
     begins | (was & stays)
 }
 
+// Each comparator and each point has a function, as it has a definition; what they share is `hold` and `choice::either`.
 fn input_ok(profile: Profile, sample: Sample, was: bool) -> bool
     ensures { result ≡ input_ok_of profile sample was }
 {

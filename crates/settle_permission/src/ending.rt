@@ -1,4 +1,5 @@
 // What a sample must show for a charge to end.
+// What a rule goes by are its parameters, as in its definition: with the whole state in their place each law of the rule would speak of whole states.
 ghost use Rattle.std.specs.Prelude.{◌≡◌, pos};
 ghost use Rattle.std.specs.Int.Signed.{lt_z};
 ghost use Rattle.settle_permission.specs.Ending.{ending_of};

@@ -47,6 +47,13 @@ pub(crate) fn bits(x: u64, at: u32, width: u32) -> u64
     (x >> at) & (most - 1)
 }
 
+// Bits of a number of 32, by a row's numbers; these go round.
+pub fn part(n: u32, first: u32, count: u32) -> u64
+    ensures { result ≡ bits_at (first % 64) (count % 64) n }
+{
+    bits(n as u64, first % 64, count % 64)
+}
+
 // One word with other bits in it.
 fn put_bits(x: u64, at: u32, width: u32, code: u64) -> u64
     requires { (at + width ≤ 64) × (at < 64) × (width < 64) }

@@ -6,7 +6,7 @@ ghost use Rattle.state_table.specs.Packed.{FitsRow};
 ghost use Rattle.state_runs.specs.Registers.{masked, setting_by, settings_taken, bad_by, bad_register, register_taken};
 
 use base::choice;
-use state_fields::bits::power;
+use state_fields::bits::{part, power};
 use state_fields::taking::taken;
 use state_parts::profile::Profile;
 use state_parts::registers::Registers;
@@ -26,13 +26,11 @@ pub struct Kept {
 }
 
 // A field's code of its register's value.
-fn digit(row: Row, value: u32) -> u32
+fn digit(row: Row, value: u32) -> u16
     requires { FitsRow row }
-    ensures { (result ≡ value / 2 ^ row.low % 2 ^ row.width) × (result ≤ 65535) }
+    ensures { result ≡ value / 2 ^ row.low % 2 ^ row.width }
 {
-    let unit = power(row.low);
-    let most = power(row.width);
-    ((value as u64) / unit % most) as u32
+    part(value, row.low, row.width) as u16
 }
 
 // So many bits, all 1, or all 0 where the code is 0.
@@ -44,15 +42,14 @@ fn ones(count: u32, code: u32) -> u64
     if code == 0 { 0 } else { most - 1 }
 }
 
-// The masks with some bits all 1, or all 0 where the code is 0.
+// The masks with some bits all 1, or all 0 where the code is 0. The bits are those of a row, which `FitsRow` holds to 31; here they are two numbers.
 fn mask_bits(masks: u32, first: u32, count: u32, code: u32) -> u32
     requires { first + count ≤ 31 }
     ensures { result ≡ masked first count code masks }
 {
     let unit = power(first);
-    let most = power(count);
     let n = masks as u64;
-    let old = n / unit % most;
+    let old = part(masks, first, count);
     let new = ones(count, code);
     (n - old * unit + new * unit) as u32
 }
@@ -62,7 +59,7 @@ fn set_by(row: Row, value: u32, t: Settings) -> Settings
     requires { FitsRow row }
     ensures { result ≡ setting_by row.access (value / 2 ^ row.low % 2 ^ row.width) t }
 {
-    let code = digit(row, value);
+    let code = u32::from(digit(row, value));
     match row.access {
         Access::Setting(number, step) => store(t, number, code * step),
         Access::Mask(first, count) => store(t, 14, mask_bits(t.masks, first, count, code)),
@@ -90,7 +87,7 @@ fn bad_by(p: Profile, row: Row, value: u32) -> bool
     requires { FitsRow row }
     ensures { result ≡ bad_by p row.access (value / 2 ^ row.low % 2 ^ row.width) }
 {
-    let code = digit(row, value);
+    let code = u32::from(digit(row, value));
     match row.access {
         Access::Setting(number, step) => !may_hold(p, number, code * step),
         _ => false,

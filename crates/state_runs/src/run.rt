@@ -26,6 +26,7 @@ fn in_middle(p: Profile, address: u32) -> bool
     address < 39 && rows_below(address) == rows_below(address + 1)
 }
 
+// A run's two numbers are two parameters, here and below: the definitions `resets`, `serves` and `write_run_of`, which theorems speak of, take them so.
 // Whether a run from an address on writes the register at another.
 fn writes(first: u32, count: u32, address: u32) -> bool
     ensures { result ≡ (leb first address && ltb address (first + count)) }
@@ -35,8 +36,8 @@ fn writes(first: u32, count: u32, address: u32) -> bool
 }
 
 // What it takes there.
-fn value_at(raw: RawBytes, first: u32, address: u32) -> u32
-    ensures { (result ≡ value_in (byte_of (raw_of raw)) (address - first)) × (result ≤ 65535) }
+fn value_at(raw: RawBytes, first: u32, address: u32) -> u16
+    ensures { result ≡ value_in (byte_of (raw_of raw)) (address - first) }
 {
     value_in(raw, address.saturating_sub(first))
 }
@@ -46,7 +47,7 @@ fn bad_frequency(p: Profile, first: u32, raw: RawBytes) -> bool
     ensures { result ≡ illegal_frequency (byte_of (raw_of raw)) first raw.length p }
 {
     let there = writes(first, raw.length, 0x16);
-    let code = value_at(raw, first, 0x16) / 1 % 8;
+    let code = u32::from(value_at(raw, first, 0x16)) / 1 % 8;
     there & !named::has_frequency(p, code)
 }
 
@@ -79,7 +80,7 @@ fn bad_run(p: Profile, first: u32, raw: RawBytes) -> bool
     let mut bad = false;
     for i in 0..raw.length {
         let value = value_in(raw, i);
-        bad = bad | bad_register(p, first + i, value);
+        bad = bad | bad_register(p, first + i, u32::from(value));
     }
     bad
 }
@@ -93,7 +94,7 @@ fn kept_run(p: Profile, before: Registers, first: u32, raw: RawBytes, k: Kept) -
     let mut u = k;
     for i in 0..raw.length {
         let value = value_in(raw, i);
-        u = register_taken(p, before, first + i, value, u);
+        u = register_taken(p, before, first + i, u32::from(value), u);
     }
     u
 }

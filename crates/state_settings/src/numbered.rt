@@ -1,4 +1,5 @@
 // The settings by their numbers.
+// A number and no enum of settings: the log and the paper have it, and so do `held_of`, `store_of` and each row of specs/Rows that is a setting's.
 ghost use Rattle.std.specs.Prelude.{◌≡◌};
 ghost use Rattle.state_settings.specs.Numbered.{held_of, store_of};
 

@@ -1,4 +1,5 @@
 // The fourteen settings' ranges, by one table.
+// A number and no enum of settings: a log may have any, and `known_setting` and `may_hold` say of any whether there is such a setting.
 // The profile is the first parameter of every table of the paper, also where no row goes by it yet (CONTRIBUTING.md, House rules).
 ghost use Rattle.std.specs.Prelude.{◌≡◌, ◌<◌};
 ghost use Rattle.state_settings.specs.Ranges.{known_setting, in_range, range_of, may_hold};

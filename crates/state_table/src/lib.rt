@@ -5,7 +5,7 @@ ghost use Rattle.std.specs.Prelude.{◌≡◌};
 ghost use Rattle.state_table.specs.Rows.{fields};
 ghost use Rattle.state_table.specs.Packed.{row_of, field_at, below};
 
-// What stands in a field.
+// What stands in a field. Statuses, pins and acts are numbers and no enums: the rows that specs/Rows quotes from the sheet have these numbers, and `statuses` and `pin_of` go by them.
 #[derive(Clone, Copy)]
 pub enum Access {
     // nothing: reserved

@@ -15,7 +15,7 @@ use state_parts::watchdog::Watchdog;
 use state_parts::{cycle, phase};
 use state_settings::kept::settings_ok;
 
-// A power-on's numbers in their ranges.
+// A power-on's numbers in their ranges. What a log's kinds may say of them is tested by `step_turns::ranges`, a definition of its own: a later kind (02, R-9) may widen the one and not the other.
 #[tactic(auto, unfolding(crate::specs::Holds::profile_ok))]
 pub fn profile_ok(p: Profile) -> bool
     ensures { result ≡ profile_ok p }

@@ -59,7 +59,7 @@ pub fn seen_in(s: State) -> Seen
     }
 }
 
-// Whether a phase is another than before.
+// Whether a phase is another than before. This and the next, which promise each its own numbers, are no `!=` in `between` itself: that was tried, and the proof didn't close.
 fn phase_changed(was: Phase, is: Phase) -> bool
     ensures { result ≡ not (eqb (phase_number was) (phase_number is)) }
 {

@@ -4,7 +4,7 @@ ghost use Rattle.step_turns.specs.Ranges.{profile_in_range, edition_in_range, sa
 
 use log_event::spelled::{SpelledProfile, SpelledResistors, SpelledSample};
 
-// A power-on's numbers in their ranges.
+// A power-on's numbers in their ranges. What is held of them is tested by `state_valid::holds::profile_ok`, a definition of its own: a later kind (02, R-9) may widen the one and not the other.
 #[tactic(auto, unfolding(crate::specs::Ranges::profile_in_range))]
 pub fn profile_in_range(p: SpelledProfile) -> bool
     ensures { result ≡ profile_in_range p }

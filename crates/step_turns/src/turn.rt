@@ -19,7 +19,7 @@ pub enum Turn {
     FollowsOutside,
 }
 
-// The edition of the pack's sheet that kinds 1 and 9 mean.
+// The edition of the pack's sheet that kinds 1 and 9 mean. A number and no enum: a log may have any, and `edition_in_range` says which of them open a run.
 const FIRST_EDITION: u32 = 1;
 
 // The profile that is held of a power-on, with the edition.

@@ -16,11 +16,11 @@ low count code new e = subst (λ (x : ℕ). x < 2 ^ count) (sym e) (ones_low cou
 pub overflow_cast-result : goal.overflow_cast-result
 overflow_cast-result c =
     let a = c.args in
-    let h = fits a.first a.count _ _ a.masks c.ones-new.result c.power-unit.ensures c.power-most.ensures (omega arith) (low a.count a.code c.ones-new.result c.ones-new.ensures) (search rules) in
+    let h = fits a.first a.count _ _ a.masks c.ones-new.result c.power-unit.ensures c.part-old.ensures (omega arith) (low a.count a.code c.ones-new.result c.ones-new.ensures) (search rules) in
     record { fits = omega arith }
 
 pub returns : goal.returns
 returns c =
     let a = c.args in
-    whole a.first a.count _ _ a.masks c.ones-new.result c.power-unit.ensures c.power-most.ensures (omega arith) (low a.count a.code c.ones-new.result c.ones-new.ensures)
+    whole a.first a.count _ _ a.masks c.ones-new.result c.power-unit.ensures c.part-old.ensures (omega arith) (low a.count a.code c.ones-new.result c.ones-new.ensures)
     ∙ ap (λ (x : ℕ). put_at a.first a.count x a.masks) c.ones-new.ensures
