@@ -48,7 +48,7 @@ fn read_whole(bytes: &[u8], all: &mut [u32])
     }
 }
 
-// Reads words that may run past the bytes' end.
+// Reads words that may run past the bytes' end. By index, as above: `chunks_exact(4)` would leave out a last word that is not all there, and is slower where none is (see `same`).
 fn read_past(bytes: &[u8], all: &mut [u32])
     ensures { ReadPromise bytes.now all.old all.new }
 {
@@ -75,6 +75,7 @@ pub fn write(out: &mut [u8], all: &[u32]) -> Result<usize, Refusal>
     if out.len() / 4 < all.len() {
         return Err(Refusal::NoRoom);
     }
+    // by index, as in `same`, where `chunks_exact` is slower; over `chunks_exact_mut` a turn tells of chunks, and what is promised is the whole of `out`
     for (i, n) in all.iter().enumerate() {
         let at = i * 4;
         out[at..at + 4].copy_from_slice(&n.to_le_bytes());
