@@ -34,6 +34,7 @@ pub fn flag_byte(p: Profile, address: u32, flags: u32) -> u8
         return 0;
     }
     let mut sum: u64 = 0;
+    // by place and not over a slice: its promise would be rows between the same two places, by which the loop's laws (state_table, `Turns`) go, and it saves one line
     for i in rows_below(address)..rows_below(address + 1) {
         let row = row_at(i);
         let here = flag_by(row, flags);

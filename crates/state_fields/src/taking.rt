@@ -40,6 +40,7 @@ pub fn taken(p: Profile, w: Words, address: u32, value: u32) -> Words
         return w;
     }
     let mut u = w;
+    // by place and not over a slice: its promise would be rows between the same two places, by which the loop's laws (state_table, `Turns`) go, and it saves one line
     for i in rows_below(address)..rows_below(address + 1) {
         let row = row_at(i);
         u = take(u, row, value);

@@ -75,6 +75,7 @@ pub fn settings_taken(p: Profile, t: Settings, address: u32, value: u32) -> Sett
         return t;
     }
     let mut u = t;
+    // by place and not over a slice: its promise would be rows between the same two places, by which the loop's laws (state_table, `Turns`) go, and it saves one line
     for i in rows_below(address)..rows_below(address + 1) {
         let row = row_at(i);
         u = set_by(row, value, u);
@@ -102,6 +103,7 @@ pub fn bad_register(p: Profile, address: u32, value: u32) -> bool
         return false;
     }
     let mut bad = false;
+    // by place and not over a slice: its promise would be rows between the same two places, by which the loop's laws (state_table, `Turns`) go, and it saves one line
     for i in rows_below(address)..rows_below(address + 1) {
         let row = row_at(i);
         bad = bad | bad_by(p, row, value);
