@@ -74,7 +74,7 @@ module _ (r : Run) (e : Later) where
   unfolding seen_of edge state_by
   expires-is = λ i. begins (expired-is r i) (expired-is (r ▸ e) i)
 
-  moves-is : not (eqb (band_number (seen_of (state_of r)).band) (band_number (seen_of (flagged_with (r ▸ e) (flags_at phase_at r))).band)) ≡ edge phase_at flag.band (r ▸ e)
+  moves-is : not (eqb (seen_of (state_of r)).band (seen_of (flagged_with (r ▸ e) (flags_at phase_at r))).band) ≡ edge phase_at flag.band (r ▸ e)
   unfolding seen_of edge state_by
   moves-is = λ i. not (eqb (band_number (pack-is r i)) (band_number (pack-is (r ▸ e) i)))
 

@@ -10,6 +10,7 @@ use Rattle.base.specs.Told.{refused}
 use Rattle.base.specs.Stamps.{elapsed_of}
 use Rattle.log_event.specs.declared.spelled.SpelledTwo.{SpelledTwo}
 use Rattle.state_parts.specs.Edges.{merged, pulse_of, no_flags, all_flags}
+use Rattle.state_parts.specs.Numbers.{phase_number, band_number}
 use Rattle.state_parts.specs.With.{with_flags}
 use Rattle.state_parts.specs.declared.band.Band.{Band}
 use Rattle.state_parts.specs.declared.sample.Sample.{Sample}
@@ -81,8 +82,8 @@ seen_alike s =
       vindpm = vindpm_of s.sample;
       thermal = thermal_of s.sample;
       expired = expired_of s.profile s.watchdog;
-      phase = s.phase;
-      band = b;
+      phase = phase_number s.phase;
+      band = band_number b;
       inputover = s.latches.inputover;
       shutdown = shutdown_of s.sample;
       packover = s.latches.packover;

@@ -3,7 +3,6 @@ use Rattle.std.specs.Prelude.{ℕ, ◌+◌, ◌-◌, ◌*◌, ◌/◌, ◌%◌, 
 use Rattle.base.specs.Pick.{pick, bit_of}
 use Rattle.base.specs.Refusals.{refusal_number}
 use Rattle.base.specs.declared.refusal.Refusal.{Refusal}
-use Rattle.state_parts.specs.Numbers.{phase_number, band_number}
 use Rattle.base.specs.Told.{Told, accepted, refused}
 use Rattle.state_table.specs.Rows.{Field, fields_of, map_size, over, shifted}
 use Rattle.state_table.specs.Packed.{upper_half}
@@ -32,13 +31,13 @@ charge_stat phase = pick (leb phase 4) phase (pick (eqb phase 5) 7 0)
 -- They are what flags are edges of. In BAT_FAULT_STAT 2 is an over-voltage battery.
 unfoldable pub statuses : Seen → List ℕ
 statuses x =
-    charge_stat (phase_number x.phase)
+    charge_stat x.phase
     ∷ bit_of x.expired
     ∷ bit_of x.thermal
     ∷ bit_of x.vindpm
     ∷ bit_of x.iindpm
     ∷ bit_of x.good
-    ∷ band_number x.band
+    ∷ x.band
     ∷ bit_of x.shutdown
     ∷ bit_of x.limit
     ∷ bit_of x.packover * 2

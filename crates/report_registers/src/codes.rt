@@ -1,6 +1,5 @@
 // The code that a field reads as.
 ghost use Rattle.std.specs.Prelude.{◌≡◌, ◌+◌, ◌≤◌, ◌%◌, ◌^◌};
-ghost use Rattle.state_parts.specs.Numbers.{phase_number};
 ghost use Rattle.state_table.specs.Packed.{field_at};
 ghost use Rattle.step_flags.specs.Edges.{seen_of};
 ghost use Rattle.report_registers.specs.Reads.{charge_stat, status_of, any_of, all_of, pin_of, code_of};
@@ -8,7 +7,6 @@ ghost use Rattle.report_registers.specs.Reads.{charge_stat, status_of, any_of, a
 use base::choice;
 use state_fields::bits::{part, power};
 use state_fields::codes::field_at;
-use state_parts::phase::Phase;
 use state_parts::profile::Profile;
 use state_parts::state::State;
 use state_settings::numbered::held;
@@ -16,14 +14,11 @@ use state_table::{Access, row_at};
 use step_flags::between::Seen;
 
 // The sheet's number of a phase.
-fn charge_stat(phase: Phase) -> u32
-    ensures { result ≡ charge_stat (phase_number phase) }
+fn charge_stat(phase: u32) -> u32
+    ensures { result ≡ charge_stat phase }
 {
-    match phase {
-        Phase::Done => 7,
-        Phase::Suspended | Phase::Fault => 0,
-        _ => phase.into(),
-    }
+    let done = choice::either(phase == 5, 7, 0);
+    choice::either(phase <= 4, phase, done)
 }
 
 // A status by its number in specs/Rows, as `statuses` has them; the numbers go round.
@@ -38,7 +33,7 @@ fn status(x: Seen, number: u32) -> u32
         3 => choice::bit(x.vindpm),
         4 => choice::bit(x.iindpm),
         5 => choice::bit(x.good),
-        6 => x.band.into(),
+        6 => x.band,
         7 => choice::bit(x.shutdown),
         8 => choice::bit(x.limit),
         9 => choice::bit(x.packover) * 2,

@@ -6,8 +6,6 @@ use Rattle.base.specs.Told.{Told, accepted, refused}
 use Rattle.log_event.specs.declared.Event.{Event}
 use Rattle.log_raw.specs.Struct.{raw_of}
 use Rattle.state_parts.specs.declared.sample.Sample.{Sample}
-use Rattle.state_parts.specs.declared.phase.Phase.TheVariants.{Idle}
-use Rattle.state_parts.specs.declared.band.Band.TheVariants.{Normal}
 use Rattle.state_parts.specs.declared.state.State.{State}
 use Rattle.state_parts.specs.declared.state.Model.{Model}
 use Rattle.state_parts.specs.declared.state.Model.TheVariants.{Off, On}
@@ -75,8 +73,8 @@ nothing_seen = record {
   vindpm = false;
   thermal = false;
   expired = false;
-  phase = Idle;
-  band = Normal;
+  phase = 0;
+  band = 0;
   inputover = false;
   shutdown = false;
   packover = false;

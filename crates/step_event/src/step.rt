@@ -10,8 +10,6 @@ use crate::valid::Valid;
 use base::refusal::Refusal;
 use base::stamp;
 use log_event::Event;
-use state_parts::band::Band;
-use state_parts::phase::Phase;
 use state_parts::sample::Sample;
 use state_parts::state::{Model, State};
 use state_registers::resetting;
@@ -118,8 +116,8 @@ fn nothing_seen() -> Seen
         vindpm: false,
         thermal: false,
         expired: false,
-        phase: Phase::Idle,
-        band: Band::Normal,
+        phase: 0,
+        band: 0,
         inputover: false,
         shutdown: false,
         packover: false,
