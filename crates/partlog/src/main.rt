@@ -28,7 +28,7 @@ fn load(rt: &(impl Env + Files), err: &mut impl Write, i: usize, log: &mut [u8])
     match read_file(rt, &name[..length], log) {
         Ok(n) => Some(n),
         Err(error) => {
-            let _ = write!(err, "partlog: cannot read ");
+            let _ = reading::put(err, b"partlog: cannot read ");
             let _ = reading::fail(err, &name[..length], &error);
             None
         }
@@ -50,7 +50,7 @@ fn print_answer(to: &impl Print, compared: Compared) {
 fn main(rt: HostRuntime) {
     let mut err = rt.stderr();
     if reading::arg_count(&rt, 4) != 3 {
-        let _ = writeln!(err, "usage: partlog FIRST SECOND");
+        let _ = reading::put(&mut err, b"usage: partlog FIRST SECOND\n");
         return;
     }
     let mut first = [0u8; 65537];

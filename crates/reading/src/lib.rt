@@ -8,7 +8,7 @@ ghost use Rattle.std.specs.IoError.{raw_os_error};
 use std::env::FillError;
 use std::fs::File;
 use std::io;
-use std::io::{Cursor, Read, Write};
+use std::io::{Cursor, ErrorKind, Read, Write};
 use std::rt::{Env, Files};
 
 // What the system answers if a name's bytes are no text: EILSEQ. A path is text here.
@@ -70,7 +70,36 @@ fn words(text: &[u8]) -> &[u8]
     }
 }
 
-// Writes a line: what failed, a colon and the error's words.
+// How many interruptions a text may have, one for each of its bytes aside.
+const INTERRUPTIONS: usize = 64;
+
+// Writes a text. A write that a signal interrupts is made again, but not for ever: that is why it isn't the library's `write_all`.
+pub fn put<W: Write>(to: &mut W, text: &[u8]) -> io::Result<()>
+    ensures { OnOk result (Appends (W.contents to.old) (W.contents to.new) text.now) }
+{
+    let mut rest = text;
+    for _ in 0..text.len().saturating_add(INTERRUPTIONS) {
+        if rest.is_empty() {
+            return Ok(());
+        }
+        match to.write(rest) {
+            Ok(0) => return Err(io::Error::from(ErrorKind::WriteZero)),
+            Ok(n) => rest = &rest[n..],
+            Err(error) => {
+                if error.kind() != ErrorKind::Interrupted {
+                    return Err(error);
+                }
+            }
+        }
+    }
+    if rest.is_empty() {
+        Ok(())
+    } else {
+        Err(io::Error::from(ErrorKind::Interrupted))
+    }
+}
+
+// Writes a line: what failed, a colon and the error's words. Each piece is tried, also behind one that failed.
 pub fn fail<W: Write>(to: &mut W, what: &[u8], error: &io::Error) -> io::Result<()>
     ensures { OnOk result ((words : List ℕ) × Appends (W.contents to.old) (W.contents to.new) (what.now ++ codes ": " ++ words ++ codes "\n")) }
 {
@@ -79,8 +108,12 @@ pub fn fail<W: Write>(to: &mut W, what: &[u8], error: &io::Error) -> io::Result<
     let n = text.position();
     let bytes = text.into_inner();
     let end = n.min(128) as usize;
-    to.write_all(what)?;
-    to.write_all(b": ")?;
-    to.write_all(words(&bytes[..end]))?;
-    to.write_all(b"\n")
+    let told = put(to, what);
+    let parted = put(to, b": ");
+    let explained = put(to, words(&bytes[..end]));
+    let ended = put(to, b"\n");
+    told?;
+    parted?;
+    explained?;
+    ended
 }

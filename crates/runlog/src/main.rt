@@ -38,16 +38,16 @@ fn run(to: &impl io::Print, log: &[u8]) -> bool
 }
 
 // Says that a read of standard input failed, and why.
-fn read_failed(to: &mut impl io::Write, error: &io::Error) -> io::Result<()> {
-    write!(to, "runlog: cannot read ")?;
-    reading::fail(to, b"standard input", error)
+fn read_failed(to: &mut impl io::Write, error: &io::Error) {
+    let _ = reading::put(to, b"runlog: cannot read ");
+    let _ = reading::fail(to, b"standard input", error);
 }
 
 fn main(rt: HostRuntime) {
     let mut input = [0u8; 65537];
     let (n, read) = reading::read_full(&mut rt.stdin(), &mut input);
     if let Err(error) = read {
-        let _ = read_failed(&mut rt.stderr(), &error);
+        read_failed(&mut rt.stderr(), &error);
         return;
     }
     run(&rt, &input[..n]);

@@ -8,24 +8,25 @@ use log_event::Event;
 use std::io::{Print, Write};
 use std::rt::{Env, Files};
 
+// Prints pieces one by one, each whatever became of those before it.
+macro_rules! say {
+    ($to:expr; $($piece:expr),+) => {{
+        $(let _ = $to.print($piece);)+
+    }};
+}
+
 // What was read: `record KIND to NEXT`, `refused NUMBER at PLACE`, or `end`.
 fn tell(to: &impl Print, got: Result<Option<(Event, usize)>, Misread>) {
-    let _ = match got {
-        Ok(Some((e, next))) => {
-            let kind = u8::from(log_event::kind(e));
-            println!(to; "record {kind} to {next}")
-        }
-        Ok(None) => println!(to; "end"),
-        Err(misread) => {
-            let number = u32::from(misread.refusal);
-            let place = misread.place;
-            println!(to; "refused {number} at {place}")
-        }
-    };
+    match got {
+        Ok(Some((e, next))) => say!(to; "record ", u8::from(log_event::kind(e)), " to ", next),
+        Ok(None) => say!(to; "end"),
+        Err(m) => say!(to; "refused ", u32::from(m.refusal), " at ", m.place),
+    }
+    say!(to; "\n");
 }
 
 fn place(to: &impl Print, log: &[u8], at: usize) {
-    let _ = print!(to; "place {at}: ");
+    say!(to; "place ", at, ": ");
     tell(to, log_record::read(log, at));
 }
 
@@ -40,7 +41,7 @@ fn places(to: &impl Print, log: &[u8]) {
 // Cut off at every length.
 fn cuts(to: &impl Print, log: &[u8]) {
     for length in 0..log.len() {
-        let _ = print!(to; "cut {length}: ");
+        say!(to; "cut ", length, ": ");
         tell(to, log_record::read(&log[..length], 0));
     }
 }
@@ -52,13 +53,11 @@ fn changed(buffer: [u8; 64]) -> usize {
 
 // Written into a lent part: what the writer answers, and what reads back.
 fn written(to: &impl Print, part: &mut [u8], e: Event) {
-    let _ = match log_record::write(part, e) {
-        Ok(n) => print!(to; "wrote {n}, "),
-        Err(r) => {
-            let number = u32::from(r);
-            print!(to; "refused {number}, ")
-        }
-    };
+    match log_record::write(part, e) {
+        Ok(n) => say!(to; "wrote ", n),
+        Err(r) => say!(to; "refused ", u32::from(r)),
+    }
+    say!(to; ", ");
     tell(to, log_record::read(part, 0));
 }
 
@@ -67,10 +66,9 @@ fn room(to: &impl Print, e: Event, size: usize)
     requires { size ≤ 64 }
 {
     let mut buffer = [0xEEu8; 64];
-    let _ = print!(to; "room {size}: ");
+    say!(to; "room ", size, ": ");
     written(to, &mut buffer[..size], e);
-    let changed = changed(buffer);
-    let _ = println!(to; "changed {changed}");
+    say!(to; "changed ", changed(buffer), "\n");
 }
 
 // Its first event, written into rooms from none to one byte more than it has.

@@ -5,63 +5,53 @@ use settle_bands::joined;
 use state_parts::band::Band;
 use state_parts::state::{Model, State};
 use state_settings::numbered;
-use std::io;
 use std::io::Print;
 use step_event::walking::Met;
 
-fn registers(to: &impl Print, s: State) -> io::Result<()> {
+fn registers(to: &impl Print, s: State) {
     for address in 0..0x27 {
-        let byte = report_registers::read(s, address);
-        print!(to; "{byte} ")?;
+        say!(to; report_registers::read(s, address), " ");
     }
-    Ok(())
 }
 
-fn settings(to: &impl Print, s: State) -> io::Result<()> {
+fn settings(to: &impl Print, s: State) {
     for number in 1..15 {
-        let held = numbered::held(s.settings, number);
-        print!(to; "{held} ")?;
+        say!(to; numbered::held(s.settings, number), " ");
     }
-    Ok(())
 }
 
 // The words of the stored outputs, which no other program prints: so no `Display` of the model's enums.
 fn band(b: Band) -> &'static str {
     match b {
-        Band::Normal => "normal",
-        Band::Cold => "cold",
-        Band::Cool => "cool",
-        Band::Warm => "warm",
-        Band::Hot => "hot",
-        Band::Mixed => "mixed",
+        Band::Normal => "normal ",
+        Band::Cold => "cold ",
+        Band::Cool => "cool ",
+        Band::Warm => "warm ",
+        Band::Hot => "hot ",
+        Band::Mixed => "mixed ",
     }
 }
 
 fn pin(s: Stat) -> &'static str {
     match s {
-        Stat::Low => "low",
-        Stat::Blinking => "blinking",
-        Stat::High => "high",
+        Stat::Low => "low ",
+        Stat::Blinking => "blinking ",
+        Stat::High => "high ",
     }
 }
 
-fn state(to: &impl Print, s: State) -> io::Result<()> {
-    print!(to; ": ")?;
-    registers(to, s)?;
-    print!(to; ": ")?;
-    settings(to, s)?;
-    let band = band(joined::pack_band(s.bands));
-    let pin = pin(stat::stat(s));
-    print!(to; ": {band} {pin} ")
+fn state(to: &impl Print, s: State) {
+    say!(to; ": ");
+    registers(to, s);
+    say!(to; ": ");
+    settings(to, s);
+    say!(to; ": ", band(joined::pack_band(s.bands)), pin(stat::stat(s)));
 }
 
-pub(crate) fn print(to: &impl Print, m: Met) -> io::Result<()> {
+pub(crate) fn print(to: &impl Print, m: Met) {
     if let Model::On(s) = m.walk.model {
-        let number = m.line.number;
-        let handed = m.walk.came.handed;
-        print!(to; "{number} ")?;
-        state(to, s)?;
-        println!(to; "{handed}")?;
+        say!(to; m.line.number, " ");
+        state(to, s);
+        say!(to; m.walk.came.handed, "\n");
     }
-    Ok(())
 }

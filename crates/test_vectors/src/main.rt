@@ -3,6 +3,13 @@
 
 ghost use Rattle.std.specs.Prelude.{◌≤◌};
 
+// Prints pieces one by one, each whatever became of those before it.
+macro_rules! say {
+    ($to:expr; $($piece:expr),+) => {{
+        $(let _ = $to.print($piece);)+
+    }};
+}
+
 mod files;
 mod held;
 mod pairs;
@@ -18,7 +25,7 @@ fn run(to: &impl Print, log: &[u8]) {
         let Ok(Some(m)) = walking::next(log, walk) else {
             return;
         };
-        let _ = held::print(to, m);
+        held::print(to, m);
         walk = m.walk;
     }
 }

@@ -21,5 +21,5 @@ pub(crate) fn run(
         return;
     };
     let bytes = rests::rest(&first[..n], &second[..m]).len();
-    let _ = println!(to; "bytes {bytes}");
+    say!(to; "bytes ", bytes, "\n");
 }
