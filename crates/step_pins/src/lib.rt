@@ -4,8 +4,8 @@
 ghost use Rattle.std.specs.Prelude.{◌≡◌, position};
 ghost use Rattle.step_pins.specs.Codes.{resistors, matches, code_of};
 
-// The resistors of codes 1 to 7, in ohms.
-const RESISTORS: [u32; 7] = [4640, 6040, 8250, 10500, 13700, 16900, 27400];
+// The resistors of codes 1 to 7, in ohms. A static lies in the program alone: a constant array would be laid on the stack.
+static RESISTORS: [u32; 7] = [4640, 6040, 8250, 10500, 13700, 16900, 27400];
 
 // Whether a resistor is within 2% of the table's.
 fn is_near(nominal: u32, ohms: u32) -> bool
