@@ -80,7 +80,7 @@ fits_access Counted = true
 fits_access (Pin number) = true
 fits_access (Acts number) = true
 
--- and of a field: one word holds it, and so do the digits of its number
+-- and of a field: one word holds it, and no number of its access is above 255
 unfoldable pub fits : Field → Bool
 fits f =
     leb f.address 38 && leb f.low 15 && leb f.width 16 && leb (bit_of f % 64 + f.width) 64 && leb (first_of f.access) 255
