@@ -70,7 +70,7 @@ fn words(text: &[u8]) -> &[u8]
     }
 }
 
-// How many interruptions a text may have, one for each of its bytes aside.
+// How many tries a text has beyond one for each of its bytes: so often may a signal interrupt its writes.
 const INTERRUPTIONS: usize = 64;
 
 // Writes a text. A write that a signal interrupts is made again, but not for ever: that is why it isn't the library's `write_all`.
