@@ -20,7 +20,7 @@ fn settings(to: &impl Print, s: State) {
     }
 }
 
-// The words of the stored outputs, which no other program prints: so no `Display` of the model's enums.
+// The words of the stored outputs, each with the space behind it, which no other program prints: so no `Display` of the model's enums.
 fn band(b: Band) -> &'static str {
     match b {
         Band::Normal => "normal ",
